@@ -1,0 +1,16 @@
+pub mod TaxonomyLaws
+pub mod Masks
+pub mod ValidModels
+mod Examples
+pub mod ExprBoundsLaws
+pub mod Forms
+pub mod Models
+mod TaxonomyExamples
+mod ForestExamples
+mod BoundsExamples
+mod NestingExamples
+mod ValidExamples
+mod NameExamples
+mod FormedExamples
+mod NarrowingExamples
+mod OrderExamples

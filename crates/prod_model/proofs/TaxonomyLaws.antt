@@ -1,0 +1,26 @@
+-- The tables have a row for each type.
+use Rattle.std.proofs.Common.{◌≡◌, ℕ, ◌<◌, List, [], length, get_or, zero-add, ◌∙◌}
+use Rattle.std.proofs.lemmas.List.{get_or_default}
+use Rattle.std.proofs.lemmas.List.FromFn.{length-map-range_with_len, get_or-map-range_with_len}
+use Rattle.prod_model.specs.declared.model.Model.{Model}
+use Rattle.prod_model.specs.Taxonomy.{tables_of, attributes_at, ports_at}
+
+pub length_attributes : (m : Model) → length (tables_of m).attributes ≡ length m.types
+unfolding tables_of
+length_attributes m = simp length-map-range_with_len
+
+pub length_ports : (m : Model) → length (tables_of m).ports ≡ length m.types
+unfolding tables_of
+length_ports m = simp length-map-range_with_len
+
+pub attributes_row : (m : Model) (t : ℕ) → t < length m.types → get_or (tables_of m).attributes t [] ≡ attributes_at m t
+unfolding tables_of
+attributes_row m t within = get_or-map-range_with_len (attributes_at m) 0 (length m.types) t t [] within (zero-add t)
+
+pub ports_row : (m : Model) (t : ℕ) → t < length m.types → get_or (tables_of m).ports t [] ≡ ports_at m t
+unfolding tables_of
+ports_row m t within = get_or-map-range_with_len (ports_at m) 0 (length m.types) t t [] within (zero-add t)
+
+-- an element that was read at a place in range is that row
+pub row_read : {A : Type 0} (rows : List (List A)) (t : ℕ) (r : List A) → t < length rows → r ≡ get_or rows t r → r ≡ get_or rows t []
+row_read rows t r within read = read ∙ get_or_default rows t r [] within

@@ -1,0 +1,10 @@
+pub mod First
+pub mod Names
+pub mod Forest
+pub mod Taxonomy
+pub mod Nesting
+pub mod Limits
+pub mod ExprBounds
+pub mod Valid
+pub mod TypeMasks
+pub mod Problem

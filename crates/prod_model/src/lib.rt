@@ -1,0 +1,23 @@
+//! The data of a product model and of an order, and what a valid model says of its types.
+#![tactic(auto)]
+
+mod copies;
+mod expr;
+mod expr_bounds;
+mod model;
+mod name;
+mod problem;
+mod same;
+#[cfg(test)]
+mod tests;
+mod type_masks;
+
+pub use expr::{Expr, Relation};
+pub use expr_bounds::Bounds;
+pub use model::{
+    AttrAt, AttrDecl, CountBound, Criterion, Domain, Model, Order, PortAt, PortDecl, PortKind,
+    Request, Rule, Tables, TypeDecl,
+};
+pub use name::Name;
+pub use problem::Problem;
+pub use sqlite_items::{Boxed, Items};
