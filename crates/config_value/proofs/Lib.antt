@@ -1,0 +1,20 @@
+pub mod ConflictLaws
+pub mod ListLaws
+pub mod ShapedParts
+pub mod KeyLaws
+pub mod RankLaws
+pub mod Places
+pub mod ShapedSentences
+pub mod TurnSteps
+pub mod Mention
+pub mod NumberedByTurn
+pub mod ValueLaws
+pub mod Products
+mod ValueExamples
+mod ShapedExamples
+mod NumberedExamples
+mod RankExamples
+mod RulesExamples
+mod ConflictExamples
+mod PreferredConflictExamples
+mod PreferredExamples

@@ -1,0 +1,12 @@
+pub mod Value
+pub mod Shaped
+pub mod Spelled
+pub mod Numbered
+pub mod Turn
+pub mod Satisfies
+pub mod Rank
+pub mod Preferred
+pub mod Conflict
+pub mod Laws
+pub mod ShapedSentences
+pub mod BoundsHold

@@ -1,0 +1,82 @@
+-- What makes a configuration of a model shaped, place by place.
+use Rattle.std.specs.Prelude.{◌≡◌, ◌↔◌, ℕ, suc, ◌<◌, ◌≤◌, ◌==◌, ℤ, pos, ◌≤ℤ◌, IsTrue, List, length, slice_get, Some}
+use Rattle.std.specs.List.{count_by}
+use Rattle.prod_model.specs.declared.model.Model.{Model}
+use Rattle.prod_model.specs.declared.model.Domain.{Domain}
+use Rattle.prod_model.specs.declared.model.Domain.TheVariants.{Range, Words}
+use Rattle.prod_model.specs.declared.model.AttrAt.{AttrAt}
+use Rattle.prod_model.specs.declared.model.PortAt.{PortAt}
+use Rattle.prod_model.specs.declared.model.CountBound.{CountBound}
+use Rattle.prod_model.specs.Forest.{is_leaf}
+use Rattle.prod_model.specs.Taxonomy.{first_words, attributes_at, ports_at}
+use Rattle.config_value.specs.declared.configuration.Instance.{Instance}
+use Rattle.config_value.specs.Value.{under}
+use Rattle.config_value.specs.Shaped.{is_shaped, part_links}
+
+-- the k-th of the list is x, counted from 0
+abbrev pub IsAt : {A : Type 0} → List A → ℕ → A → Type 0
+IsAt xs k x = slice_get xs k ≡ Some x
+
+-- the number is the low one, the high one or between them
+abbrev pub IsBetween : ℕ → ℕ → ℕ → Type 0
+IsBetween low high n = (low ≤ n) × (n ≤ high)
+
+-- there is an instance of that number, and it is under the type
+pub record IsInstanceUnder (m : Model) (c : List Instance) (t i : ℕ) : Type 0 where
+  pub instance : Instance
+  pub there : IsAt c i instance
+  pub of_type : IsTrue (under m t instance)
+
+-- the value is the place in the attribute's first declaration of a word that is among the words
+pub record IsPlaceOfWord (words first : List (List ℕ)) (v : ℤ) : Type 0 where
+  pub place : ℕ
+  pub value : v ≡ pos place
+  pub word : List ℕ
+  pub first_declared : IsAt first place word
+  pub place_among : ℕ
+  pub among : IsAt words place_among word
+
+-- the value is in the range, or is the place of one of the words
+abbrev pub IsValueOf : Domain → List (List ℕ) → ℤ → Type 0
+IsValueOf (Range low high) first v = (low ≤ℤ v) × (v ≤ℤ high)
+IsValueOf (Words words) first v = IsPlaceOfWord words first v
+
+-- the instance is of a leaf type, and has a value for each attribute of the type and links for each port
+pub record IsBuilt (m : Model) (x : Instance) : Type 0 where
+  pub leaf : IsTrue (is_leaf m x.kind)
+  pub each_attribute : length x.values ≡ length (attributes_at m x.kind)
+  pub each_port : length x.links ≡ length (ports_at m x.kind)
+
+-- the links ascend, lead to instances under the port's target, and are as many as the port allows
+pub record AreLinksOf (m : Model) (c : List Instance) (p : PortAt) (links : List ℕ) : Type 0 where
+  pub ascending : (k i j : ℕ) → IsAt links k i → IsAt links (suc k) j → i < j
+  pub on_target : (k i : ℕ) → IsAt links k i → IsInstanceUnder m c p.target i
+  pub number : IsBetween p.low p.high (length links)
+
+-- how many links of part ports lead to the instance of that number
+abbrev pub parts_into : Model → List Instance → ℕ → ℕ
+parts_into m c j = count_by (λ k. k == j) (part_links m c)
+
+-- The shape of a configuration of the model. The line above a field says what it means.
+pub record HasShape (m : Model) (c : List Instance) : Type 0 where
+  -- there is an instance, and there are no more than the model allows
+  pub size : IsBetween 1 m.instances (length c)
+  -- instance 0 is of a type under the root type
+  pub root : IsInstanceUnder m c m.root 0
+  -- each instance is of a leaf type, with lists as long as the type asks
+  pub built : (i : ℕ) (x : Instance) → IsAt c i x → IsBuilt m x
+  -- each value is in its attribute's domain at the instance's type
+  pub values : (i k : ℕ) (x : Instance) (a : AttrAt) (v : ℤ) → IsAt c i x → IsAt (attributes_at m x.kind) k a → IsAt x.values k v
+      → IsValueOf a.domain (first_words m a.id) v
+  -- the links of each port ascend, lead to instances under its target, and are as many as it allows
+  pub links : (i k : ℕ) (x : Instance) (p : PortAt) (links : List ℕ) → IsAt c i x → IsAt (ports_at m x.kind) k p → IsAt x.links k links
+      → AreLinksOf m c p links
+  -- an instance has one part link into it at most, and instance 0 has none
+  pub parts : (j : ℕ) → j < length c → parts_into m c j ≤ 1
+  pub whole : parts_into m c 0 ≡ 0
+  -- for each entry of `bounds`, the number of instances under its type is within its pair
+  pub counts : (k : ℕ) (b : CountBound) → IsAt m.bounds k b → IsBetween b.low b.high (count_by (under m b.kind) c)
+
+-- A configuration is shaped exactly where it has this shape.
+abbrev pub ShapedSentences : Type 0
+ShapedSentences = (m : Model) (c : List Instance) → IsTrue (is_shaped m c) ↔ HasShape m c

@@ -1,0 +1,38 @@
+//! The laws of the order on configurations and of conflicts, each as a function that a layer above can call.
+ghost use Rattle.config_value.specs.Laws.{KeyDetermines, RanksTotally, HasOnePreferred, HasOnePreferredConflict, PreferredConflictIsMinimal, PreferredConflictIsEmpty};
+ghost use Rattle.config_value.specs.ShapedSentences.{ShapedSentences};
+
+/// A configuration is shaped exactly where it has its shape, place by place.
+pub fn shaped_sentences()
+    ensures { ShapedSentences }
+{}
+
+/// On shaped configurations of one model the key determines the configuration.
+pub fn key_determines()
+    ensures { KeyDetermines }
+{}
+
+/// On shaped configurations of one model, ranking before is a strict total order.
+pub fn ranks_totally()
+    ensures { RanksTotally }
+{}
+
+/// There is at most one preferred configuration.
+pub fn has_one_preferred()
+    ensures { HasOnePreferred }
+{}
+
+/// There is at most one preferred conflict.
+pub fn has_one_preferred_conflict()
+    ensures { HasOnePreferredConflict }
+{}
+
+/// No proper part of the preferred conflict is a conflict.
+pub fn preferred_conflict_is_minimal()
+    ensures { PreferredConflictIsMinimal }
+{}
+
+/// The preferred conflict keeps no request exactly where no configuration satisfies the model.
+pub fn preferred_conflict_is_empty()
+    ensures { PreferredConflictIsEmpty }
+{}

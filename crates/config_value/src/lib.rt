@@ -1,0 +1,11 @@
+//! Finished configurations: their order, which satisfy a model, and which are preferred.
+#![tactic(auto)]
+
+mod configuration;
+mod found;
+mod key;
+pub mod laws;
+mod turn;
+
+pub use configuration::{Configuration, Instance};
+pub use found::Found;
