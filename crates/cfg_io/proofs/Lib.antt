@@ -1,0 +1,4 @@
+pub mod CountLaws
+pub mod FileLaws
+pub mod KeptCounts
+pub mod StreamLaws

@@ -1,0 +1,11 @@
+pub mod Causes
+pub mod Counts
+pub mod FaultCounts
+pub mod Memory
+pub mod MemoryFiles
+pub mod MemoryShelves
+pub mod MemorySinks
+pub mod OutSinks
+pub mod Shelves
+pub mod Sinks
+pub mod Streams
