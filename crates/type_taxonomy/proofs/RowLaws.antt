@@ -1,0 +1,54 @@
+-- What a type has: its parent's entries narrowed, and then what is new.
+use Rattle.std.proofs.Common.{◌≡◌, ℕ, ◌+◌, ◌<◌, Bool, true, false, cond, List, [], ◌∷◌, ◌++◌, length, get_or, take, map, sym, ap, ◌∙◌, refl, Option, Some, append_assoc}
+use Rattle.std.specs.Option.{option_map_or}
+use Rattle.std.specs.List.{find}
+use Rattle.std.specs.Cmp.Lexicographic.{same_text as text_of_same}
+use Rattle.std.proofs.lemmas.List.{map-append, take_more}
+use Rattle.prod_model.specs.declared.model.TypeDecl.{TypeDecl}
+use Rattle.prod_model.specs.Names.{same_text}
+use Rattle.prod_model.specs.Taxonomy.{Named, kept_entry}
+use Rattle.type_taxonomy.specs.declared.entry.Entry.{Entry}
+use Rattle.type_taxonomy.specs.Entries.{named, placed, placed_again, narrowed_by}
+
+cond-passes : {X : Type 0} (p : X → Bool) (b : Bool) (y x : X) (rest : Option X) → p y ≡ b → (rest ≡ Some x → p x ≡ true) → cond b (Some y) rest ≡ Some x → p x ≡ true
+cond-passes p true y x rest is later found =
+    let same : y ≡ x = cc in
+    ap p (sym same) ∙ is
+cond-passes p false y x rest is later found = later found
+
+-- what a search finds passes the test
+pub find-passes : {X : Type 0} (p : X → Bool) (xs : List X) (x : X) → find p xs ≡ Some x → p x ≡ true
+find-passes p [] x found = cc
+find-passes p (y ∷ ys) x found = cond-passes p (p y) y x (find p ys) refl (find-passes p ys x) found
+
+module _ {D : Type 0} (declared : TypeDecl → List D) (name_of : D → List ℕ) where
+  -- an entry under the name of the last declaration, which is its own name
+  pub named-narrowed : (ds : List D) (e after : Entry D) → find (λ d. same_text (name_of d) (name_of e.declared.now)) ds ≡ Some after.declared.now → after.id ≡ e.id
+      → named name_of after ≡ kept_entry declared name_of (placed declared name_of) (placed_again declared name_of) ds (named name_of e)
+  named-narrowed ds e after found is_id =
+      let same : name_of after.declared.now ≡ name_of e.declared.now =
+      text_of_same _ _ (sym (find-passes (λ d. same_text (name_of d) (name_of e.declared.now)) ds after.declared.now found)) in
+      let narrow : Option D → Named (ℕ × D) = λ o. option_map_or (λ d. record { name = name_of e.declared.now; what = (e.id, d) }) o (named name_of e) in
+      ap (λ n. record { name = n; what = (after.id, after.declared.now) }) same
+      ∙ ap (λ k. record { name = name_of e.declared.now; what = (k, after.declared.now) }) is_id ∙ ap narrow (sym found)
+
+  -- one inherited entry more
+  pub narrowed_more : (ds : List D) (inherited : List (Entry D)) (i : ℕ) (row after : List (Entry D)) (e kept : Entry D) → i < length inherited
+      → e ≡ get_or inherited i e → named name_of kept ≡ kept_entry declared name_of (placed declared name_of) (placed_again declared name_of) ds (named name_of e)
+      → map (named name_of) row ≡ narrowed_by declared name_of ds (map (named name_of) (take i inherited)) → after ≡ row ++ kept ∷ []
+      → map (named name_of) after ≡ narrowed_by declared name_of ds (map (named name_of) (take (i + 1) inherited))
+  narrowed_more ds inherited i row after e kept within is is_kept so_far pushed =
+      let narrow = kept_entry declared name_of (placed declared name_of) (placed_again declared name_of) ds in
+      let before = take i inherited in
+      let more : take (i + 1) inherited ≡ before ++ e ∷ [] = take_more inherited i e within ∙ ap (λ y. before ++ y ∷ []) (sym is) in
+      let parts : map narrow (map (named name_of) (before ++ e ∷ [])) ≡ map narrow (map (named name_of) before) ++ narrow (named name_of e) ∷ [] =
+      ap (map narrow) (map-append (named name_of) before (e ∷ [])) ∙ map-append narrow (map (named name_of) before) (named name_of e ∷ []) in
+      ap (map (named name_of)) pushed ∙ map-append (named name_of) row (kept ∷ []) ∙ ap (λ l. l ++ named name_of kept ∷ []) so_far
+      ∙ ap (λ y. map narrow (map (named name_of) before) ++ y ∷ []) is_kept ∙ sym parts ∙ ap (λ l. map narrow (map (named name_of) l)) (sym more)
+
+-- what was there, the items so far, and one more
+pub push_more : {X : Type 0} (before row after new : List X) (i : ℕ) (e : X) → i < length new → e ≡ get_or new i e → row ≡ before ++ take i new → after ≡ row ++ e ∷ []
+    → after ≡ before ++ take (i + 1) new
+push_more before row after new i e within is so_far pushed =
+    pushed ∙ ap (λ l. l ++ e ∷ []) so_far ∙ append_assoc before (take i new) (e ∷ [])
+    ∙ ap (λ l. before ++ l) (ap (λ y. take i new ++ y ∷ []) is ∙ sym (take_more new i e within))

@@ -1,0 +1,29 @@
+use Rattle.std.proofs.Common.{◌+◌, length, map, drop, arith, ap, sym, ◌∙◌}
+use Rattle.type_taxonomy.specs.Entries.{named, is_new_among}
+use Rattle.type_taxonomy.proofs.Items.{length-push-le}
+use Rattle.type_taxonomy.proofs.NewEntries.{numbered_more, numbered_same}
+use Rattle.type_taxonomy.proofs.new_entries.new_in.Goals as goal
+use Rattle.type_taxonomy.proofs.new_entries.new_in.Goals.{then-is_new+in_ok-push, else-is_new}
+
+pub loop-declared-preserved : goal.loop-declared-preserved
+loop-declared-preserved g c =
+    let it = g.D.Declaration in
+    let so_far = c.loop-declared.invariant in
+    let is_new = is_new_among it.declared it.name_of c.args.types.now (drop 1 c.args.line.now) in
+    elim c.if-is_new.branch [
+      | then-is_new+in_ok-push w ↦
+          let pushed = w.row-is ∙ w.in_ok-push.ensures.ok in
+          record {
+            of_type = so_far.of_type;
+            few = length-push-le _ _ _ _ so_far.few pushed;
+            row = numbered_more it.declared it.name_of c.args.first_id is_new c.declared-declared-items.result.now c.loop-declared.declared-index c.loop-declared.row c.if-is_new.row _
+                c.loop-declared-test.true c.declared-item.is (sym c.is_new.ensures ∙ w.if-is_new.true) (ap (λ k. c.args.first_id + k) w.len.ensures) so_far.row pushed;
+          }
+      | else-is_new w ↦ record {
+        of_type = so_far.of_type;
+        few = omega (arith, ap length w.row-is, so_far.few);
+        row = ap (map (named it.name_of)) w.row-is
+            ∙ numbered_same it.declared it.name_of c.args.first_id is_new c.declared-declared-items.result.now c.loop-declared.declared-index c.loop-declared.row _
+            c.loop-declared-test.true c.declared-item.is (sym c.is_new.ensures ∙ w.if-is_new.false) so_far.row;
+      }
+    ]

@@ -1,0 +1,35 @@
+//! Whether types have too many attributes or ports.
+ghost use Rattle.std.specs.Prelude.{◌≡◌, ◌<◌, ◌^◌, length};
+ghost use Rattle.prod_model.specs.Valid.{has_room_at};
+ghost use Rattle.type_taxonomy.specs.Built.{IsBuilt};
+ghost use Rattle.type_taxonomy.specs.Firsts.{IsFirstFailing};
+
+use crate::forest::Forest;
+
+const MOST_ATTRIBUTES: usize = 32;
+
+const MOST_PORTS: usize = 16;
+
+/// The first type with too many attributes or ports, inherited ones included.
+pub(crate) fn first_crowded(forest: &Forest) -> Option<u32>
+    requires built { IsBuilt forest.now }
+    requires few { length forest.now.model.now.types < 2 ^ 32 }
+    ensures { IsFirstFailing (has_room_at forest.now.model.now) (length forest.now.model.now.types) result }
+{
+    for t in 0..forest.model.types.len() {
+        if !has_room(forest, t as u32) {
+            return Some(t as u32);
+        }
+    }
+    None
+}
+
+fn has_room(forest: &Forest, t: u32) -> bool
+    requires built { IsBuilt forest.now }
+    requires known { t < length forest.now.model.now.types }
+    ensures { result ≡ has_room_at forest.now.model.now t }
+{
+    let attributes = forest.attributes.as_slice()[t as usize].len();
+    let ports = forest.ports.as_slice()[t as usize].len();
+    attributes <= MOST_ATTRIBUTES && ports <= MOST_PORTS
+}

@@ -1,0 +1,62 @@
+//! The tables of a model's taxonomy, or its first fault.
+ghost use Rattle.std.specs.Prelude.{◌≡◌, ◌<◌, ◌^◌, length, sum_by, IfOk, IfErr, IsTrue};
+ghost use Rattle.prod_model.specs.Taxonomy.{tables_of};
+ghost use Rattle.prod_model.specs.Valid.{IsFormed, IsTaxonomy, has_distinct_names};
+ghost use Rattle.type_taxonomy.specs.Faults.{Faults};
+
+use crate::circle::first_in_circle;
+use crate::fault::TaxFault;
+use crate::forest::forest_of;
+use crate::known::first_unknown;
+use crate::line::all_lines;
+use crate::room::first_crowded;
+use crate::tables::tables_of;
+use crate::widening::first_widening;
+use prod_model::{Model, Tables};
+use std::alloc::Global;
+
+/// The tables of a model's taxonomy: what each type has of attributes and ports. Otherwise its first fault, by kind
+/// (`UnknownParent`, `Cycle`, `Widening`, `Crowded`), then by type, and then by place, attributes before ports;
+/// or `Memory`, where memory runs out.
+///
+/// A declaration widens where it is no narrowing of that of the nearest ancestor that declares its name.
+///
+/// The line of each type is made once, and so is its row of the tables, after its parent's. Each declaration is
+/// compared with those of the type's ancestors, to tell whether it is new, and each row with the declarations of its
+/// type; the nearest of a name is looked up, once those above the type are gone over. The types are gone over once
+/// for each length of a line.
+pub fn build(alloc: Global, model: &Model) -> Result<Tables, TaxFault>
+    requires { IsFormed model.now }
+    ensures tables { IfOk result (λ tables. tables ≡ tables_of model.now) }
+    ensures taxonomy { IfOk result (λ _. IsTaxonomy model.now) }
+    ensures fault { IfErr result (λ e. Faults model.now e) }
+{
+    build_few(alloc, model)
+}
+
+/// The same for a model of which only the numbers of types and declarations are known to be small. Where a type has a
+/// name twice, which is no fault here, the tables need not be those of a taxonomy.
+pub(crate) fn build_few(alloc: Global, model: &Model) -> Result<Tables, TaxFault>
+    requires few { length model.now.types < 1000 }
+    requires few_attributes { sum_by (λ d. length d.attributes) model.now.types < 2 ^ 32 }
+    requires few_ports { sum_by (λ d. length d.ports) model.now.types < 2 ^ 32 }
+    ensures tables { IfOk result (λ tables. tables ≡ tables_of model.now) }
+    ensures taxonomy { IfOk result (λ _. IsTrue (has_distinct_names model.now) → IsTaxonomy model.now) }
+    ensures fault { IfErr result (λ e. Faults model.now e) }
+{
+    if let Some(kind) = first_unknown(model) {
+        return Err(TaxFault::UnknownParent { kind });
+    }
+    let lines = all_lines(alloc, model.types.as_slice())?;
+    if let Some(kind) = first_in_circle(model, lines.as_slice()) {
+        return Err(TaxFault::Cycle { kind });
+    }
+    let forest = forest_of(alloc, model, lines)?;
+    if let Some(fault) = first_widening(alloc, &forest)? {
+        return Err(fault);
+    }
+    if let Some(kind) = first_crowded(&forest) {
+        return Err(TaxFault::Crowded { kind });
+    }
+    Ok(tables_of(alloc, &forest)?)
+}

@@ -1,0 +1,108 @@
+//! What is built of a model, as a text.
+ghost use Rattle.std.specs.Prelude.{◌≡◌, length, sum_by, IfSome};
+
+use super::literals::{Kind, declaration, model_of};
+use crate::declaration::Declaration;
+use crate::fault::TaxFault;
+use crate::taxonomy::build_few;
+use prod_model::{
+    AttrAt, AttrDecl, Domain, Items, Model, PortAt, PortDecl, PortKind, Tables, TypeDecl,
+};
+use std::alloc::{AllocError, Global};
+use std::fmt::Write;
+use std::test::Fail;
+
+/// How many declarations there are.
+fn count<D: Declaration>(types: &[TypeDecl]) -> Option<u32>
+    ensures { IfSome result (λ n. n ≡ sum_by (λ d. length (D.declared d)) types.now) }
+{
+    let mut number = 0u32;
+    for kind in types {
+        number = number.checked_add(u32::try_from(D::declared(kind).len()).ok()?)?;
+    }
+    Some(number)
+}
+
+/// What is built of a model, if it is small.
+fn answer(alloc: Global, model: &Model) -> Option<Result<Tables, TaxFault>> {
+    let types = model.types.as_slice();
+    if types.len() >= 1000 {
+        return None;
+    }
+    let _attributes = count::<AttrDecl>(types)?;
+    let _ports = count::<PortDecl>(types)?;
+    Some(build_few(alloc, model))
+}
+
+/// Writes words, or the ends of a range.
+fn write_domain(text: &mut String, domain: &Domain) -> Result<(), AllocError> {
+    match domain {
+        Domain::Range { low, high } => write!(text, "{low}..{high}"),
+        Domain::Words(words) => {
+            for word in words.as_slice() {
+                for byte in word.bytes() {
+                    write!(text, "{}", char::from(*byte))?;
+                }
+                write!(text, "|")?;
+            }
+            Ok(())
+        }
+    }
+}
+
+fn write_attributes(text: &mut String, attributes: &[AttrAt]) -> Result<(), AllocError> {
+    write!(text, "(")?;
+    for a in attributes {
+        write!(text, " {}:", a.id)?;
+        write_domain(text, &a.domain)?;
+    }
+    write!(text, " )")
+}
+
+fn write_ports(text: &mut String, ports: &[PortAt]) -> Result<(), AllocError> {
+    write!(text, "(")?;
+    for p in ports {
+        let kind = if p.kind == PortKind::Part {
+            "part"
+        } else {
+            "shared"
+        };
+        write!(text, " {}:{kind} {} {}..{}", p.id, p.target, p.low, p.high)?;
+    }
+    write!(text, " )")
+}
+
+/// The attributes of each type and the ports of each type, or the fault.
+fn write_answer(
+    text: &mut String,
+    answer: &Option<Result<Tables, TaxFault>>,
+) -> Result<(), AllocError> {
+    match answer {
+        None => write!(text, "too large"),
+        Some(Err(fault)) => write!(text, "{fault:?}"),
+        Some(Ok(tables)) => {
+            for row in tables.attributes.as_slice() {
+                write_attributes(text, row.as_slice())?;
+            }
+            for row in tables.ports.as_slice() {
+                write_ports(text, row.as_slice())?;
+            }
+            Ok(())
+        }
+    }
+}
+
+pub(super) fn answer_text(alloc: Global, model: &Model) -> Result<String, Fail> {
+    let mut text = String::new(alloc);
+    write_answer(&mut text, &answer(alloc, model))?;
+    Ok(text)
+}
+
+/// The answer at a forest of these types.
+pub(super) fn built(alloc: Global, kinds: &[Kind]) -> Result<String, Fail> {
+    let mut types = Items::new(alloc);
+    for kind in kinds {
+        types.push(declaration(alloc, kind)?)?;
+    }
+    answer_text(alloc, &model_of(alloc, types))
+}

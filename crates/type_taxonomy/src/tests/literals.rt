@@ -1,0 +1,152 @@
+//! Models from short literals.
+ghost use Rattle.std.specs.Prelude.{◌≡◌, [], ◌∷◌, codes, IfOk};
+ghost use Rattle.prod_model.specs.Valid.{IsFormed};
+
+use prod_model::{AttrDecl, Domain, Items, Model, Name, PortDecl, PortKind, TypeDecl};
+use std::alloc::{AllocError, Global};
+
+/// The values of an attribute.
+#[derive(Drop)]
+pub(super) enum Values<'a> {
+    Range(i64, i64),
+    Words(&'a [&'a [u8]]),
+}
+
+/// A type: its parent, its attributes, and its ports with target, low and high.
+#[derive(Drop)]
+pub(super) struct Kind<'a> {
+    pub parent: Option<u32>,
+    pub attributes: &'a [(&'a [u8], Values<'a>)],
+    pub ports: &'a [(&'a [u8], PortKind, u32, u32, u32)],
+}
+
+pub(super) fn name(alloc: Global, text: &[u8]) -> Result<Name, AllocError> {
+    if text.is_empty() || text.len() > 32 {
+        return Name::from_bytes(alloc, b"unnamed");
+    }
+    Name::from_bytes(alloc, text)
+}
+
+pub(super) fn domain(alloc: Global, values: &Values) -> Result<Domain, AllocError> {
+    match values {
+        Values::Range(low, high) => Ok(Domain::Range {
+            low: *low,
+            high: *high,
+        }),
+        Values::Words(texts) => {
+            let mut words = Items::new(alloc);
+            for text in *texts {
+                words.push(name(alloc, text)?)?;
+            }
+            Ok(Domain::Words(words))
+        }
+    }
+}
+
+pub(super) fn declaration(alloc: Global, kind: &Kind) -> Result<TypeDecl, AllocError> {
+    let mut attributes = Items::new(alloc);
+    for (text, values) in kind.attributes {
+        attributes.push(AttrDecl {
+            name: name(alloc, text)?,
+            domain: domain(alloc, values)?,
+        })?;
+    }
+    let mut ports = Items::new(alloc);
+    for (text, kind, target, low, high) in kind.ports {
+        ports.push(PortDecl {
+            name: name(alloc, text)?,
+            kind: *kind,
+            target: *target,
+            low: *low,
+            high: *high,
+        })?;
+    }
+    Ok(TypeDecl {
+        name: name(alloc, b"Kind")?,
+        parent: kind.parent,
+        attributes,
+        ports,
+    })
+}
+
+pub(super) fn model_of(alloc: Global, types: Items<TypeDecl>) -> Model
+    ensures { result ≡ record { root = 0; instances = 1; types = types; bounds = []; rules = [] } }
+{
+    Model {
+        root: 0,
+        instances: 1,
+        types,
+        bounds: Items::new(alloc),
+        rules: Items::new(alloc),
+    }
+}
+
+pub(super) fn plain(parent: Option<u32>) -> Kind<'static> {
+    Kind {
+        parent,
+        attributes: &[],
+        ports: &[],
+    }
+}
+
+pub(super) fn sized<'a>(parent: Option<u32>, attributes: &'a [(&'a [u8], Values<'a>)]) -> Kind<'a> {
+    Kind {
+        parent,
+        attributes,
+        ports: &[],
+    }
+}
+
+pub(super) fn linked<'a>(
+    parent: Option<u32>,
+    ports: &'a [(&'a [u8], PortKind, u32, u32, u32)],
+) -> Kind<'a> {
+    Kind {
+        parent,
+        attributes: &[],
+        ports,
+    }
+}
+
+/// One type, whose parent is no type.
+pub(super) fn one_box(alloc: Global) -> Result<Items<TypeDecl>, AllocError>
+    ensures { IfOk result (λ types. types ≡ record { name = codes "Box"; parent = Some 7; attributes = []; ports = [] } ∷ []) }
+{
+    let mut types = Items::new(alloc);
+    types.push(TypeDecl {
+        name: Name::from_bytes(alloc, b"Box")?,
+        parent: Some(7),
+        attributes: Items::new(alloc),
+        ports: Items::new(alloc),
+    })?;
+    Ok(types)
+}
+
+pub(super) fn formed_box(alloc: Global) -> Result<Model, AllocError>
+    ensures { IfOk result IsFormed }
+{
+    let types = one_box(alloc)?;
+    Ok(model_of(alloc, types))
+}
+
+/// A type of so many attributes, with two letters and the number of its name.
+pub(super) fn many(
+    alloc: Global,
+    parent: Option<u32>,
+    letter: u8,
+    number: u8,
+) -> Result<TypeDecl, AllocError> {
+    let mut attributes = Items::new(alloc);
+    for k in 0..number {
+        attributes.push(AttrDecl {
+            name: name(alloc, &[letter, b'a' + k % 26, b'a' + k / 26])?,
+            domain: Domain::Range { low: 0, high: 1 },
+        })?;
+    }
+    Ok(TypeDecl {
+        name: name(alloc, b"Kind")?,
+        parent,
+        attributes,
+        ports: Items::new(alloc),
+    })
+}
