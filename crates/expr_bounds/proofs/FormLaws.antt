@@ -1,0 +1,61 @@
+-- The arguments of a form of the language: there are few, and each is a form of the language.
+use Rattle.std.proofs.Common.{◌≡◌, ℕ, ◌≤◌, ◌∙◌, sym, ap, refl, zero, suc, Bool, true, ◌&&◌, List, [], ◌∷◌, map, length, Some, IsTrue, arith}
+use Rattle.std.specs.Prelude.{slice_get}
+use Rattle.std.specs.List.{list_all}
+use Rattle.std.proofs.lemmas.List.{length-map}
+use Rattle.std.proofs.lemmas.Bool.Decides.{nat_tests}
+use Rattle.prod_model.specs.declared.expr.Expr.{Expr}
+use Rattle.prod_model.specs.declared.expr.Expr.TheOpen.{Expr-F, Add, Sub, Times, Cmp, And, Or, Not, If, All, Any}
+use Rattle.prod_model.specs.declared.expr.Expr.TheViews.{out-Expr, roll-Expr, roll-out-Expr}
+use Rattle.prod_model.specs.declared.expr.Expr.TheFolds.{fold-roll-Expr}
+use Rattle.prod_model.specs.ExprBounds.{has_arguments}
+use Rattle.expr_bounds.specs.Arguments.{argument_list}
+use Rattle.expr_bounds.specs.Forms.{is_form, layer_is_form}
+
+-- there are at most 64 arguments, and each is of the language
+abbrev HasFormedArguments : List Expr → Type 0
+HasFormedArguments es = (length es ≤ 64) × (list_all is_form es ≡ true)
+
+pub all-map : (es : List Expr) → list_all (λ b. b) (map is_form es) ≡ list_all is_form es
+all-map [] = refl
+all-map (e ∷ es) = ap (λ b. is_form e && b) (all-map es)
+
+formed-none : HasFormedArguments []
+formed-none = (omega arith, refl)
+
+formed-one : (e : Expr) → is_form e ≡ true → HasFormedArguments (e ∷ [])
+formed-one e formed = (omega arith, grind (arith))
+
+formed-two : (e f : Expr) → (is_form e && is_form f) ≡ true → HasFormedArguments (e ∷ f ∷ [])
+formed-two e f formed = (omega arith, grind (arith))
+
+formed-list : (es : List Expr) → (has_arguments (map is_form es) && list_all (λ b. b) (map is_form es)) ≡ true → HasFormedArguments es
+formed-list es formed = let all = all-map es in let count : length (map is_form es) ≡ length es = simp length-map in (grind (arith, nat_tests), grind (arith))
+
+formed-roll : (f : Expr-F Expr) → is_form (roll-Expr f) ≡ true → HasFormedArguments (argument_list f)
+unfolding is_form
+formed-roll (Add args) formed = formed-list args (sym (fold-roll-Expr Bool layer_is_form (Add args)) ∙ formed)
+formed-roll (Sub e f) formed = formed-two e f (sym (fold-roll-Expr Bool layer_is_form (Sub e f)) ∙ formed)
+formed-roll (Times k e) formed = formed-one e (sym (fold-roll-Expr Bool layer_is_form (Times k e)) ∙ formed)
+formed-roll (Cmp r e f) formed = formed-two e f (sym (fold-roll-Expr Bool layer_is_form (Cmp r e f)) ∙ formed)
+formed-roll (And args) formed = formed-list args (sym (fold-roll-Expr Bool layer_is_form (And args)) ∙ formed)
+formed-roll (Or args) formed = formed-list args (sym (fold-roll-Expr Bool layer_is_form (Or args)) ∙ formed)
+formed-roll (Not e) formed = formed-one e (sym (fold-roll-Expr Bool layer_is_form (Not e)) ∙ formed)
+formed-roll (If e f) formed = formed-two e f (sym (fold-roll-Expr Bool layer_is_form (If e f)) ∙ formed)
+formed-roll (All p e) formed = formed-one e (sym (fold-roll-Expr Bool layer_is_form (All p e)) ∙ formed)
+formed-roll (Any p e) formed = formed-one e (sym (fold-roll-Expr Bool layer_is_form (Any p e)) ∙ formed)
+formed-roll form formed = formed-none
+
+formed-arguments : (e : Expr) → IsTrue (is_form e) → HasFormedArguments (argument_list (out-Expr e))
+formed-arguments e formed = formed-roll (out-Expr e) (ap is_form (roll-out-Expr e) ∙ formed)
+
+pub all-at : {X : Type 0} (p : X → Bool) (xs : List X) (i : ℕ) (x : X) → list_all p xs ≡ true → slice_get xs i ≡ Some x → p x ≡ true
+all-at p [] i x all found = cc
+all-at p (y ∷ ys) zero x all found = let same : y ≡ x = cc in let here : p y ≡ true = grind (arith) in ap p (sym same) ∙ here
+all-at p (y ∷ ys) (suc i) x all found = all-at p ys i x (grind (arith)) found
+
+pub few-arguments : (e : Expr) → IsTrue (is_form e) → length (argument_list (out-Expr e)) ≤ 64
+few-arguments e formed = (formed-arguments e formed).0
+
+pub formed-argument : (e : Expr) (i : ℕ) (arg : Expr) → IsTrue (is_form e) → slice_get (argument_list (out-Expr e)) i ≡ Some arg → IsTrue (is_form arg)
+formed-argument e i arg formed found = all-at is_form (argument_list (out-Expr e)) i arg (formed-arguments e formed).1 found

@@ -1,0 +1,20 @@
+-- The small model is declared rightly, and its tables are its own.
+use Rattle.std.proofs.Common.{◌≡◌, refl}
+use Rattle.prod_model.specs.Names.{is_name, is_word}
+use Rattle.prod_model.specs.Forest.{is_a, is_forest}
+use Rattle.prod_model.specs.Taxonomy.{attributes_of, ports_of, tables_of}
+use Rattle.prod_model.specs.Valid.{has_short_lists, has_formed_names, has_distinct_names, has_numbers_in_limits, has_known_types, has_one_bound_each, has_known_parents, has_narrowings, has_room, IsDeclared}
+use Rattle.expr_bounds.specs.Sample.{sample, sample_tables}
+
+pub sample_is_declared : IsDeclared sample
+unfolding is_name is_word is_a is_forest attributes_of ports_of has_short_lists has_formed_names has_distinct_names has_numbers_in_limits has_known_types has_one_bound_each has_known_parents has_narrowings has_room
+sample_is_declared = record {
+  formed = record { short_lists = refl; formed_names = refl; distinct_names = refl; numbers_in_limits = refl };
+  known_types = refl;
+  one_bound_each = refl;
+  taxonomy = record { known_parents = refl; forest = refl; narrowings = refl; room = refl };
+}
+
+pub sample_has_tables : sample_tables ≡ tables_of sample
+unfolding tables_of attributes_of ports_of
+sample_has_tables = refl

@@ -1,0 +1,10 @@
+pub mod Forms
+pub mod Parts
+pub mod Faults
+pub mod Arguments
+pub mod FormBounds
+pub mod Laws
+pub mod PlusArgument
+pub mod Sample
+pub mod Search
+pub mod Parents

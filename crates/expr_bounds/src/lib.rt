@@ -1,0 +1,27 @@
+//! Tells what an expression is at a type, with its bounds, or its first fault.
+#![tactic(auto)]
+
+mod bounds;
+mod fault;
+mod first_words;
+mod form;
+#[cfg(test)]
+mod formed;
+mod interval;
+mod judge;
+mod kind;
+mod kinds;
+pub mod laws;
+mod lookup;
+mod names;
+mod own;
+#[cfg(test)]
+mod sample;
+mod search;
+mod standing;
+#[cfg(test)]
+mod tests;
+
+pub use fault::ExprFault;
+pub use judge::bounds_of;
+pub use prod_model::Bounds;
