@@ -1,0 +1,12 @@
+pub mod MemberLaws
+pub mod NameLaws
+pub mod ListLaws
+pub mod StepLaws
+pub mod RowLaws
+pub mod SideLaws
+pub mod PlainParts
+pub mod PlainModelLaws
+pub mod PlainValid
+pub mod PlainLaws
+pub mod FileLaws
+pub mod TaxonomyLaws

@@ -1,0 +1,116 @@
+-- What the form of a name gives, and looking up a name in a list.
+use Rattle.std.proofs.Common.{◌≡◌, ℕ, ◌+◌, ◌<◌, ◌≤◌, Bool, true, false, List, [], ◌∷◌, ◌++◌, map, length, take, drop, get_or, arith, refl, sym, ap, ◌∙◌, ◌||◌}
+use Rattle.std.proofs.lemmas.Grind.{take_at_read}
+use Rattle.std.proofs.lemmas.Bool.{true≢false}
+use Rattle.std.proofs.lemmas.List.{map-append, take-append-drop, take_all}
+use Rattle.std.proofs.lemmas.List.Folds.{list_any-append}
+use Rattle.std.specs.Borrow.{Bor}
+use Rattle.std.specs.Prelude.{not, ◌&&◌, if◌then◌else◌}
+use Rattle.std.specs.List.{list_any, position, position_or_len}
+use Rattle.std.specs.Cmp.Lexicographic.{nat_list_eq_equiv}
+use Rattle.std.proofs.lemmas.List.{length-map}
+use Rattle.std.proofs.lemmas.Bool.Decides.{nat_tests}
+use Rattle.prod_model.specs.Names.{is_name, same_text, is_distinct}
+use Rattle.model_reader.proofs.MemberLaws.{list_any_map}
+
+pub name_some : (bytes : List ℕ) → is_name bytes ≡ true → 1 ≤ length bytes
+unfolding is_name
+name_some [] h = grind (arith, nat_tests)
+name_some (b ∷ bs) h = grind (arith, nat_tests)
+
+pub name_short : (bytes : List ℕ) → is_name bytes ≡ true → length bytes ≤ 32
+unfolding is_name
+name_short bytes h = grind (arith, nat_tests)
+
+pub same_text-symm : (a b : List ℕ) → same_text a b ≡ same_text b a
+same_text-symm = nat_list_eq_equiv.symm
+
+-- borrowed names are searched as the names are
+pub list_any-now : (name : List ℕ) (texts : List (Bor (List ℕ))) →
+    list_any (same_text name) (map (λ t. t.now) texts) ≡ list_any (λ t. same_text name t.now) texts
+list_any-now name texts = list_any_map (same_text name) (λ t. t.now) texts
+
+position_or_len-map : {A B : Type 0} (f : A → B) (p : B → Bool) (q : A → Bool) → ((x : A) → p (f x) ≡ q x) → (xs : List A) →
+    position_or_len p (map f xs) ≡ position_or_len q xs
+position_or_len-map f p q same [] = refl
+position_or_len-map f p q same (x ∷ xs) = rw (same x, position_or_len-map f p q same xs) refl
+
+pub position-map : {A B : Type 0} (f : A → B) (p : B → Bool) (q : A → Bool) → ((x : A) → p (f x) ≡ q x) → (xs : List A) →
+    position p (map f xs) ≡ position q xs
+position-map f p q same xs = rw (position_or_len-map f p q same xs, length-map xs f) refl
+
+pub position-now : (name : List ℕ) (texts : List (Bor (List ℕ))) →
+    position (λ n. same_text n name) (map (λ t. t.now) texts) ≡ position (λ t. same_text name t.now) texts
+position-now name texts = position-map (λ t. t.now) (λ n. same_text n name) (λ t. same_text name t.now) (λ t. same_text-symm t.now name) texts
+
+pub ruleset searching = (list_any-now, position-now)
+
+is_distinct-snoc : (names : List (List ℕ)) (name : List ℕ) → is_distinct (names ++ name ∷ []) ≡ (not (list_any (same_text name) names) && is_distinct names)
+is_distinct-snoc [] name = refl
+is_distinct-snoc (n ∷ ns) name =
+    rw (is_distinct-snoc ns name, list_any-append (same_text n) ns (name ∷ []), same_text-symm name n)
+    (parts (same_text n name) (list_any (same_text name) ns) (list_any (same_text n) ns) (is_distinct ns))
+  where
+    parts : (a b c d : Bool) → (not (c || (a || false)) && (not b && d)) ≡ (not (a || b) && (not c && d))
+    parts true b true d = refl
+    parts true b false d = refl
+    parts false true true d = refl
+    parts false true false d = refl
+    parts false false true d = refl
+    parts false false false d = refl
+
+-- a name that is twice in the first names is twice in all
+is_distinct-append : (names more : List (List ℕ)) → is_distinct names ≡ false → is_distinct (names ++ more) ≡ false
+is_distinct-append [] more twice = absurd (true≢false twice)
+is_distinct-append (n ∷ ns) more twice =
+    rw (list_any-append (same_text n) ns more)
+    (parts (list_any (same_text n) ns) (list_any (same_text n) more) (is_distinct-append ns more) twice)
+  where
+    parts : (a b : Bool) → (is_distinct ns ≡ false → is_distinct (ns ++ more) ≡ false) → (not a && is_distinct ns) ≡ false →
+        (not (a || b) && is_distinct (ns ++ more)) ≡ false
+    parts true b rest h = refl
+    parts false true rest h = refl
+    parts false false rest h = rest h
+
+module _ {D : Type 0} (name_of : D → List ℕ) where
+  -- the names of the first i were taken in, and none of them is twice
+  pub record IsCollected (all : List D) (i : ℕ) (names : List (List ℕ)) : Type 0 where
+    pub taken : names ≡ map name_of (take i all)
+    pub distinct : is_distinct names ≡ true
+
+  pub collected-start : (all : List D) → IsCollected all 0 []
+  collected-start all = record { taken = refl; distinct = refl }
+
+  taken-next : (all : List D) (i : ℕ) (names : List (List ℕ)) (d : D) → names ≡ map name_of (take i all) → i < length all → d ≡ get_or all i d →
+      names ++ name_of d ∷ [] ≡ map name_of (take (i + 1) all)
+  taken-next all i names d taken within read =
+      ap (λ ns. ns ++ name_of d ∷ []) taken ∙ sym (map-append name_of (take i all) (d ∷ []))
+      ∙ ap (map name_of) (ap (λ e. take i all ++ e ∷ []) read ∙ sym (take_at_read all i d within).1)
+
+  -- after a name that was new
+  pub collected-next : (all : List D) (i : ℕ) (names : List (List ℕ)) (d : D) (name : List ℕ) (added : Bool) (new : List (List ℕ)) →
+      IsCollected all i names → i < length all → d ≡ get_or all i d → name ≡ name_of d →
+      added ≡ not (list_any (same_text name) names) → new ≡ (if added then names ++ name ∷ [] else names) → added ≡ true → IsCollected all (i + 1) new
+  collected-next all i names d name added new c within read is_name added_is new_is was_added =
+      rw (new_is, was_added, is_name) record {
+        taken = taken-next all i names d c.taken within read;
+        distinct = is_distinct-snoc names (name_of d)
+            ∙ rw (sym (ap (λ n. not (list_any (same_text n) names)) is_name) ∙ sym added_is ∙ was_added, c.distinct) refl;
+      }
+
+  -- at a name that was among them
+  pub collected-twice : (all : List D) (i : ℕ) (names : List (List ℕ)) (d : D) (name : List ℕ) (added : Bool) →
+      IsCollected all i names → i < length all → d ≡ get_or all i d → name ≡ name_of d →
+      added ≡ not (list_any (same_text name) names) → added ≡ false → is_distinct (map name_of all) ≡ false
+  collected-twice all i names d name added c within read is_name added_is was_known =
+      ap (λ l. is_distinct (map name_of l)) (sym (take-append-drop (i + 1) all))
+      ∙ ap is_distinct (map-append name_of (take (i + 1) all) (drop (i + 1) all))
+      ∙ is_distinct-append (map name_of (take (i + 1) all)) (map name_of (drop (i + 1) all))
+      (ap is_distinct (sym (taken-next all i names d c.taken within read)) ∙ is_distinct-snoc names (name_of d)
+      ∙ ap (λ b. b && is_distinct names) (sym (ap (λ n. not (list_any (same_text n) names)) is_name) ∙ sym added_is ∙ was_known))
+
+  pub collected-names : (all : List D) (i : ℕ) (names : List (List ℕ)) → IsCollected all i names → length all ≤ i → names ≡ map name_of all
+  collected-names all i names c end = c.taken ∙ ap (map name_of) (take_all i all end)
+
+  pub collected-distinct : (all : List D) (i : ℕ) (names : List (List ℕ)) → IsCollected all i names → length all ≤ i → is_distinct (map name_of all) ≡ true
+  collected-distinct all i names c end = ap is_distinct (sym (collected-names all i names c end)) ∙ c.distinct

@@ -1,0 +1,5 @@
+pub mod Plain
+pub mod PlainTable
+pub mod Files
+pub mod PlainFile
+pub mod Refused

@@ -1,0 +1,55 @@
+//! Names in their order, for looking one up and for telling whether one came before.
+ghost use Rattle.std.specs.Prelude.{◌≡◌, ◌<◌, ◌^◌, List, [], ◌∷◌, ◌++◌, not, length, IfOk, if◌then◌else◌};
+ghost use Rattle.std.specs.List.{list_any, position};
+ghost use Rattle.prod_model.specs.Names.{same_text};
+
+use indexmap::IndexSet;
+use std::alloc::{AllocError, Global};
+use std::marker::Model;
+
+/// Names in the order in which they came, each once, seen as the list of them.
+#[derive(Drop)]
+pub struct Names<'n> {
+    texts: IndexSet<&'n [u8]>,
+}
+
+impl<'n> Model for Names<'n> {
+    ghost use Rattle.std.specs.Prelude.{List, ℕ, map};
+
+    ghost Value = { List (List ℕ) };
+
+    ghost view = { λ n. map (λ t. t.now) n.texts.keys };
+}
+
+impl<'n> Names<'n> {
+    pub fn new(alloc: Global) -> Names<'n>
+        ensures { result ≡ [] }
+    {
+        Names {
+            texts: IndexSet::new(alloc),
+        }
+    }
+
+    #[tactic(auto, using(crate::proofs::NameLaws::searching))]
+    /// Puts the name last and returns `true`. Where it is among the names already, they stay.
+    pub fn insert(&mut self, name: &'n [u8]) -> Result<bool, AllocError>
+        ensures added { IfOk result (λ added. added ≡ not (list_any (same_text name.now) self.old)) }
+        ensures names { IfOk result
+            (λ added. self.new ≡ (if added then self.old ++ name.now ∷ [] else self.old)) }
+    {
+        let Ok(added) = self.texts.insert(name) else {
+            return Err(AllocError);
+        };
+        Ok(added)
+    }
+
+    #[tactic(auto, using(crate::proofs::NameLaws::searching))]
+    /// The place of a name, counted from 0.
+    pub fn place_of(&self, name: &[u8]) -> Option<u32>
+        requires { length self.now < 2 ^ 32 }
+        ensures { result ≡ position (λ n. same_text n name.now) self.now }
+    {
+        let place = self.texts.get_index_of(name)?;
+        Some(place as u32)
+    }
+}
