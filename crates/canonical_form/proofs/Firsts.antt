@@ -1,0 +1,115 @@
+-- Along a line of types, the first declarations of names are those that are new in their types.
+use Rattle.std.proofs.Common.{◌≡◌, ℕ, zero, suc, Bool, true, false, not, ◌||◌, List, [], ◌∷◌, ◌++◌, map, reverse, refl, sym, ap, ◌∙◌, append_assoc, append-nil, arith}
+use Rattle.std.specs.Prelude.{IsTrue}
+use Rattle.std.specs.List.{list_any, list_all, filter, flat_map, fold}
+use Rattle.std.proofs.lemmas.Cmp.{nat_list_eq_equiv}
+use Rattle.std.proofs.lemmas.List.{reverse-append}
+use Rattle.std.proofs.lemmas.List.Folds.{list_any-append}
+use Rattle.std.proofs.lemmas.Grind.{flat_map-append, fold-append}
+use Rattle.prod_model.specs.declared.model.TypeDecl.{TypeDecl}
+use Rattle.prod_model.specs.Names.{same_text, is_distinct}
+use Rattle.prod_model.specs.Forest.{ancestors}
+use Rattle.prod_model.specs.Taxonomy.{declarations_of, new_declarations}
+use Rattle.canonical_form.proofs.Forests.{IsLine}
+use Rattle.canonical_form.specs.FirstDeclared.{with_new, firsts_of}
+
+-- a list passes a test turned round as it does as it stands
+list_any-flat_map-reverse : {X Y : Type 0} (p : Y → Bool) (f : X → List Y) (xs : List X) → list_any p (flat_map f (reverse xs)) ≡ list_any p (flat_map f xs)
+list_any-flat_map-reverse p f [] = refl
+list_any-flat_map-reverse p f (x ∷ xs) =
+    let turned = ap (list_any p) (ap (flat_map f) (reverse-append (x ∷ []) xs) ∙ flat_map-append f (reverse xs) (x ∷ [])) in
+    let parts = list_any-append p (flat_map f (reverse xs)) (flat_map f (x ∷ [])) in
+    let more = list_any-append p (f x) (flat_map f xs) in
+    let one = list_any-append p (f x) [] in
+    let rest = list_any-flat_map-reverse p f xs in
+    grind (arith)
+
+module _ {D : Type 0} (name_of : D → List ℕ) where
+  -- one of the declarations has the name of d
+  abbrev pub is_named : List D → D → Bool
+  is_named ds d = list_any (λ e. same_text (name_of d) (name_of e)) ds
+
+  same_text-swap : (d e : D) → same_text (name_of d) (name_of e) ≡ same_text (name_of e) (name_of d)
+  same_text-swap d e = nat_list_eq_equiv.symm (name_of d) (name_of e)
+
+  -- declarations of one name are in the same lists
+  is_named-same : (ds : List D) (d e : D) → same_text (name_of d) (name_of e) ≡ true → is_named ds d ≡ is_named ds e
+  is_named-same [] d e same = refl
+  is_named-same (x ∷ xs) d e same =
+      let rest = is_named-same xs d e same in let here = nat_list_eq_equiv.congr (name_of d) (name_of e) (name_of x) same in cc
+
+  is_named-with_new : (firsts : List D) (a d : D) → is_named (with_new name_of firsts a) d ≡ (is_named firsts d || same_text (name_of d) (name_of a))
+  is_named-with_new firsts a d =
+      let more = list_any-append (λ e. same_text (name_of d) (name_of e)) firsts (a ∷ []) in
+      let same = is_named-same firsts d a in
+      grind (arith)
+
+  -- the first declarations have the names of all
+  is_named-fold : (firsts ds : List D) (d : D) → is_named (fold (with_new name_of) firsts ds) d ≡ (is_named firsts d || is_named ds d)
+  is_named-fold firsts [] d = grind (arith)
+  is_named-fold firsts (a ∷ ds) d = grind (arith, is_named-fold (with_new name_of firsts a) ds d, is_named-with_new firsts a d)
+
+  -- a declaration of another name tells nothing of these
+  filter-other : (firsts : List D) (d : D) (ds : List D) → list_any (same_text (name_of d)) (map name_of ds) ≡ false
+      → filter (λ x. not (is_named (firsts ++ d ∷ []) x)) ds ≡ filter (λ x. not (is_named firsts x)) ds
+  filter-other firsts d [] other = refl
+  filter-other firsts d (x ∷ xs) other =
+      let more = list_any-append (λ e. same_text (name_of x) (name_of e)) firsts (d ∷ []) in
+      let swap = same_text-swap d x in
+      let rest = filter-other firsts d xs in
+      grind (arith)
+
+  -- of declarations of different names, those are kept whose names are new
+  fold-distinct : (firsts ds : List D) → IsTrue (is_distinct (map name_of ds))
+      → fold (with_new name_of) firsts ds ≡ firsts ++ filter (λ d. not (is_named firsts d)) ds
+  fold-distinct firsts [] distinct = sym (append-nil firsts)
+  fold-distinct firsts (d ∷ ds) distinct =
+      let kept = fold-distinct firsts ds in
+      let added = fold-distinct (firsts ++ d ∷ []) ds in
+      let other = filter-other firsts d ds in
+      let assoc = append_assoc firsts (d ∷ []) (filter (λ x. not (is_named firsts x)) ds) in
+      grind (arith)
+
+-- what passes two tests that agree is the same
+filter-same : {X : Type 0} (p q : X → Bool) → ((x : X) → p x ≡ q x) → (xs : List X) → filter p xs ≡ filter q xs
+filter-same p q same [] = refl
+filter-same p q same (x ∷ xs) = let here = same x in let rest = filter-same p q same xs in grind (arith)
+
+module _ {D : Type 0} (declared : TypeDecl → List D) (name_of : D → List ℕ) where
+  -- no type declares a name twice
+  abbrev pub HasDistinct : List TypeDecl → Type 0
+  HasDistinct types = IsTrue (list_all (λ kind. is_distinct (map name_of (declared kind))) types)
+
+  distinct-declarations : (types : List TypeDecl) (t : ℕ) → HasDistinct types → IsTrue (is_distinct (map name_of (declarations_of declared name_of types t)))
+  distinct-declarations [] t distinct = refl
+  distinct-declarations (d ∷ ds) zero distinct = grind (arith)
+  distinct-declarations (d ∷ ds) (suc t) distinct = distinct-declarations ds t (grind (arith))
+
+  -- of the declarations of a type, those are new that none of its ancestors declares
+  new-of-line : (types : List TypeDecl) (t : ℕ) (us : List ℕ) → ancestors types t ≡ us
+      → filter (λ d. not (is_named name_of (firsts_of name_of (flat_map (declarations_of declared name_of types) (reverse us))) d)) (declarations_of declared name_of types t)
+      ≡ new_declarations declared name_of types t
+  new-of-line types t us above =
+      let decls = declarations_of declared name_of types in
+      filter-same _ _ (λ d.
+      ap not (is_named-fold name_of [] (flat_map decls (reverse us)) d
+      ∙ list_any-flat_map-reverse (λ e. same_text (name_of d) (name_of e)) decls us
+      ∙ ap (λ vs. is_named name_of (flat_map decls vs) d) (sym above))) (decls t)
+
+  pub firsts_of-line : (types : List TypeDecl) (us : List ℕ) → HasDistinct types → IsLine types us
+      → firsts_of name_of (flat_map (declarations_of declared name_of types) (reverse us)) ≡ flat_map (new_declarations declared name_of types) (reverse us)
+  firsts_of-line types [] distinct line = refl
+  firsts_of-line types (u ∷ us) distinct line =
+      let decls = declarations_of declared name_of types in
+      let news = new_declarations declared name_of types in
+      let turned = reverse-append (u ∷ []) us in
+      let before = flat_map decls (reverse us) in
+      ap (λ vs. firsts_of name_of (flat_map decls vs)) turned
+      ∙ ap (firsts_of name_of) (flat_map-append decls (reverse us) (u ∷ []) ∙ ap (λ ds. before ++ ds) (append-nil (decls u)))
+      ∙ fold-append (with_new name_of) [] before (decls u)
+      ∙ fold-distinct name_of (firsts_of name_of before) (decls u) (distinct-declarations types u distinct)
+      ∙ ap (λ ds. firsts_of name_of before ++ ds) (new-of-line types u us line.0)
+      ∙ ap (λ ds. ds ++ news u) (firsts_of-line types us distinct line.1)
+      ∙ ap (λ ds. flat_map news (reverse us) ++ ds) (sym (append-nil (news u)))
+      ∙ sym (flat_map-append news (reverse us) (u ∷ []))
+      ∙ ap (flat_map news) (sym turned)

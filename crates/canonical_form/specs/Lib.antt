@@ -1,0 +1,9 @@
+pub mod AnswerText
+pub mod AnswerParts
+pub mod BadLine
+pub mod Grammar
+pub mod ConflictText
+pub mod FirstDeclared
+pub mod Pieces
+pub mod Written
+pub mod Reading

@@ -1,0 +1,237 @@
+//! What no clause says: that texts are read at all. The codes of bad lines are worked out by hand.
+ghost use Rattle.std.specs.Prelude.{◌≡◌, pos, length, IfOk, codes, Some, None, [], ◌∷◌};
+ghost use Rattle.prod_model.specs.declared.model.Domain.TheVariants.{Range, Words};
+ghost use Rattle.prod_model.specs.declared.model.PortKind.TheVariants.{Part};
+
+use super::read_answer;
+use crate::answer_text::write_answer;
+use crate::fault::{AnswerRefusal, LineFault};
+use prod_model::{
+    AttrAt, AttrDecl, Domain, Items, Model, Name, PortAt, PortDecl, PortKind, Problem, Tables,
+    TypeDecl,
+};
+use std::alloc::{AllocError, Global};
+use std::test::Fail;
+
+fn prices() -> Domain
+    ensures { result ≡ Range (pos 0) (pos 99) }
+{
+    Domain::Range { low: 0, high: 99 }
+}
+
+fn colors(alloc: Global) -> Result<Domain, AllocError>
+    ensures { IfOk result (λ d. d ≡ Words (codes "red" ∷ codes "blue" ∷ [])) }
+{
+    let mut words = Items::new(alloc);
+    words.push(Name::from_bytes(alloc, b"red")?)?;
+    words.push(Name::from_bytes(alloc, b"blue")?)?;
+    Ok(Domain::Words(words))
+}
+
+fn bike_attributes(alloc: Global) -> Result<Items<AttrDecl>, AllocError>
+    ensures { IfOk result (λ ds. ds
+        ≡ record { name = codes "price"; domain = Range (pos 0) (pos 99) }
+        ∷ record { name = codes "color"; domain = Words (codes "red" ∷ codes "blue" ∷ []) } ∷ []) }
+{
+    let mut attributes = Items::new(alloc);
+    attributes.push(AttrDecl {
+        name: Name::from_bytes(alloc, b"price")?,
+        domain: prices(),
+    })?;
+    attributes.push(AttrDecl {
+        name: Name::from_bytes(alloc, b"color")?,
+        domain: colors(alloc)?,
+    })?;
+    Ok(attributes)
+}
+
+fn bike_ports(alloc: Global) -> Result<Items<PortDecl>, AllocError>
+    ensures { IfOk result (λ ds. ds
+        ≡ record { name = codes "left"; kind = Part; target = 2; low = 0; high = 9 } ∷ []) }
+{
+    let mut ports = Items::new(alloc);
+    ports.push(PortDecl {
+        name: Name::from_bytes(alloc, b"left")?,
+        kind: PortKind::Part,
+        target: 2,
+        low: 0,
+        high: 9,
+    })?;
+    Ok(ports)
+}
+
+/// `Any` over `Bike`, which has all attributes and ports, and `Wheel`.
+fn types(alloc: Global) -> Result<Items<TypeDecl>, AllocError>
+    ensures { IfOk result (λ types. types
+        ≡ record { name = codes "Any"; parent = None; attributes = []; ports = [] }
+        ∷ record {
+          name = codes "Bike";
+          parent = Some 0;
+          attributes = record { name = codes "price"; domain = Range (pos 0) (pos 99) }
+              ∷ record { name = codes "color"; domain = Words (codes "red" ∷ codes "blue" ∷ []) }
+              ∷ [];
+          ports = record { name = codes "left"; kind = Part; target = 2; low = 0; high = 9 } ∷ [];
+        }
+        ∷ record { name = codes "Wheel"; parent = None; attributes = []; ports = [] } ∷ []) }
+{
+    let mut types = Items::new(alloc);
+    types.push(TypeDecl {
+        name: Name::from_bytes(alloc, b"Any")?,
+        parent: None,
+        attributes: Items::new(alloc),
+        ports: Items::new(alloc),
+    })?;
+    types.push(TypeDecl {
+        name: Name::from_bytes(alloc, b"Bike")?,
+        parent: Some(0),
+        attributes: bike_attributes(alloc)?,
+        ports: bike_ports(alloc)?,
+    })?;
+    types.push(TypeDecl {
+        name: Name::from_bytes(alloc, b"Wheel")?,
+        parent: None,
+        attributes: Items::new(alloc),
+        ports: Items::new(alloc),
+    })?;
+    Ok(types)
+}
+
+fn attribute_rows(alloc: Global) -> Result<Items<Items<AttrAt>>, AllocError>
+    ensures { IfOk result (λ rows. rows ≡ [] ∷ (record { id = 0; domain = Range (pos 0) (pos 99) }
+        ∷ record { id = 1; domain = Words (codes "red" ∷ codes "blue" ∷ []) } ∷ []) ∷ [] ∷ []) }
+{
+    let mut bike = Items::new(alloc);
+    bike.push(AttrAt {
+        id: 0,
+        domain: prices(),
+    })?;
+    bike.push(AttrAt {
+        id: 1,
+        domain: colors(alloc)?,
+    })?;
+    let mut rows = Items::new(alloc);
+    rows.push(Items::new(alloc))?;
+    rows.push(bike)?;
+    rows.push(Items::new(alloc))?;
+    Ok(rows)
+}
+
+fn port_rows(alloc: Global) -> Result<Items<Items<PortAt>>, AllocError>
+    ensures { IfOk result (λ rows. rows ≡ []
+        ∷ (record { id = 0; kind = Part; target = 2; low = 0; high = 9 } ∷ []) ∷ [] ∷ []) }
+{
+    let mut bike = Items::new(alloc);
+    bike.push(PortAt {
+        id: 0,
+        kind: PortKind::Part,
+        target: 2,
+        low: 0,
+        high: 9,
+    })?;
+    let mut rows = Items::new(alloc);
+    rows.push(Items::new(alloc))?;
+    rows.push(bike)?;
+    rows.push(Items::new(alloc))?;
+    Ok(rows)
+}
+
+fn bikes(alloc: Global) -> Result<Problem, AllocError>
+    ensures { IfOk result (λ m. length m.types ≡ 3) }
+{
+    let types = types(alloc)?;
+    let attributes = attribute_rows(alloc)?;
+    let ports = port_rows(alloc)?;
+    let model = Model {
+        root: 1,
+        instances: 64,
+        types,
+        bounds: Items::new(alloc),
+        rules: Items::new(alloc),
+    };
+    Ok(Problem::from_parts(model, Tables { attributes, ports }))
+}
+
+fn fault_of(alloc: Global, problem: &Problem, text: &[u8]) -> Option<LineFault> {
+    match read_answer(alloc, problem, text) {
+        Err(AnswerRefusal::Line(fault)) => Some(fault),
+        _ => None,
+    }
+}
+
+#[test]
+fn tells_the_first_bad_line(rt: HostRuntime) -> Result<(), Fail> {
+    let alloc = rt.alloc();
+    let problem = bikes(alloc)?;
+    for (text, line, code) in [
+        ("", 1, 1),
+        ("prefered\n", 1, 1),
+        ("preferred", 1, 6),
+        ("preferred \n", 1, 6),
+        ("preferred\n", 2, 2),
+        ("preferred\n1 Wheel\n", 2, 2),
+        ("preferred\n00 Wheel\n", 2, 2),
+        ("preferred\n0 Wheel\n2 Wheel\n", 3, 2),
+        ("preferred\n0 Wheel\n\n", 3, 2),
+        ("preferred\n0 Any\n", 2, 3),
+        ("preferred\n0 Wheels\n", 2, 3),
+        ("preferred\n0  Wheel\n", 2, 3),
+        ("preferred\n0 Bike color=red price=1 left:\n", 2, 4),
+        ("preferred\n0 Bike price=-0 color=red left:\n", 2, 4),
+        ("preferred\n0 Bike price=018 color=red left:\n", 2, 4),
+        ("preferred\n0 Bike price=1000001 color=red left:\n", 2, 4),
+        ("preferred\n0 Bike price=+1 color=red left:\n", 2, 4),
+        ("preferred\n0 Bike price=1 color=green left:\n", 2, 4),
+        ("preferred\n0 Bike price=1 color=reddish left:\n", 2, 4),
+        ("preferred\n0 Bike price=1 color=red\n", 2, 5),
+        ("preferred\n0 Bike price=1 color=red left:2,1\n", 2, 5),
+        ("preferred\n0 Bike price=1 color=red left:1,1\n", 2, 5),
+        ("preferred\n0 Bike price=1 color=red left:1,\n", 2, 5),
+        ("preferred\n0 Bike price=1 color=red left:01\n", 2, 5),
+        ("preferred\n0 Bike price=1 color=red left:64\n", 2, 5),
+        ("preferred\n0 Bike price=1 color=red left:,\n", 2, 6),
+        ("preferred\n0 Bike price=1 color=red left:-\n", 2, 6),
+        ("preferred\n0 Bike price=1 color=red left:63 \n", 2, 6),
+        ("preferred\n0 Wheel", 2, 6),
+        ("preferred\n0 Wheel\r\n", 2, 6),
+    ] {
+        let fault = fault_of(alloc, &problem, text.as_bytes());
+        assert_eq!(rt; fault, Some(LineFault { line, code }), "at {text}");
+    }
+    Ok(())
+}
+
+#[test]
+fn reads_what_it_writes(rt: HostRuntime) -> Result<(), Fail> {
+    let alloc = rt.alloc();
+    let problem = bikes(alloc)?;
+    for text in [
+        "preferred\n0 Wheel\n",
+        "preferred\n0 Bike price=0 color=blue left:\n",
+        "preferred\n0 Bike price=-1000000 color=red left:0\n",
+        "preferred\n0 Bike price=1000000 color=red left:1,2,10,63\n1 Wheel\n2 Wheel\n",
+    ] {
+        let read = read_answer(alloc, &problem, text.as_bytes());
+        let Ok(c) = read else {
+            return Err(Fail::from("it is an answer"));
+        };
+        let written = write_answer(alloc, &problem, &c)?;
+        assert_eq!(rt; written.as_slice(), text.as_bytes());
+    }
+    Ok(())
+}
+
+#[test]
+fn no_line_stands_behind_the_last_instance(rt: HostRuntime) -> Result<(), Fail> {
+    let alloc = rt.alloc();
+    let problem = bikes(alloc)?;
+    let mut text = Vec::from_slice(alloc, b"preferred\n")?;
+    for number in 0..64u64 {
+        crate::numbers::put_number(&mut text, number)?;
+        text.extend_from_slice(b" Wheel\n")?;
+    }
+    assert!(rt; read_answer(alloc, &problem, &text).is_ok());
+    text.extend_from_slice(b"64 Wheel\n")?;
+    let fault = fault_of(alloc, &problem, &text);
+    assert_eq!(rt; fault, Some(LineFault { line: 66, code: 2 }));
+    Ok(())
+}
