@@ -1,0 +1,87 @@
+-- What each broken test says, by its number.
+use Rattle.std.proofs.Common.{◌≡◌, ℕ, ◌<◌, ◌≤◌, ◌==◌, List, length, arith}
+use Rattle.std.specs.Prelude.{IsTrue, IsFalse}
+use Rattle.std.specs.List.{count_by}
+use Rattle.prod_model.specs.declared.model.Model.{Model}
+use Rattle.prod_model.specs.declared.model.CountBound.{CountBound}
+use Rattle.prod_model.specs.declared.model.Rule.{Rule}
+use Rattle.prod_model.specs.Limits.{is_between}
+use Rattle.config_value.specs.declared.configuration.Instance.{Instance}
+use Rattle.config_value.specs.Value.{under, is_under, is_true_at}
+use Rattle.config_value.specs.Shaped.{part_links}
+use Rattle.config_value.specs.Numbered.{is_in_turn}
+use Rattle.answer_check.specs.Breaks.{Has, most_part_links, too_many, other_root, bad_value, no_instance, off_target, bad_number, shared_part, misnumbered, bad_count, false_rule}
+use Rattle.answer_check.specs.Finds.{BreaksAt}
+
+module _ (m : Model) (c : List Instance) (code i k : ℕ) where
+  pub too_many-parts : code ≡ 1 → BreaksAt m c code i k → (i ≡ m.instances) × (k ≡ 0) × (m.instances < length c)
+  too_many-parts here (too_many is instance item many) = (instance, item, many)
+  too_many-parts here (other_root is _ _ _) = absurd (omega arith)
+  too_many-parts here (bad_value is _ _ _ _ _ _ _) = absurd (omega arith)
+  too_many-parts here (no_instance is _ _ _ _ _ _) = absurd (omega arith)
+  too_many-parts here (off_target is _ _ _ _ _ _ _ _) = absurd (omega arith)
+  too_many-parts here (bad_number is _ _ _ _) = absurd (omega arith)
+  too_many-parts here (shared_part is _ _ _) = absurd (omega arith)
+  too_many-parts here (misnumbered is _ _ _ _) = absurd (omega arith)
+  too_many-parts here (bad_count is _ _ _ _) = absurd (omega arith)
+  too_many-parts here (false_rule is _ _ _ _ _ _) = absurd (omega arith)
+
+  pub other_root-parts : code ≡ 2 → BreaksAt m c code i k → (i ≡ 0) × (k ≡ 0) × IsFalse (is_under m c m.root 0)
+  other_root-parts here (other_root is instance item other) = (instance, item, other)
+  other_root-parts here (too_many is _ _ _) = absurd (omega arith)
+  other_root-parts here (bad_value is _ _ _ _ _ _ _) = absurd (omega arith)
+  other_root-parts here (no_instance is _ _ _ _ _ _) = absurd (omega arith)
+  other_root-parts here (off_target is _ _ _ _ _ _ _ _) = absurd (omega arith)
+  other_root-parts here (bad_number is _ _ _ _) = absurd (omega arith)
+  other_root-parts here (shared_part is _ _ _) = absurd (omega arith)
+  other_root-parts here (misnumbered is _ _ _ _) = absurd (omega arith)
+  other_root-parts here (bad_count is _ _ _ _) = absurd (omega arith)
+  other_root-parts here (false_rule is _ _ _ _ _ _) = absurd (omega arith)
+
+  pub shared_part-parts : code ≡ 7 → BreaksAt m c code i k → (k ≡ 0) × (i < length c) × (most_part_links i < count_by (λ j. j == i) (part_links m c))
+  shared_part-parts here (shared_part is item within shared) = (item, within, shared)
+  shared_part-parts here (too_many is _ _ _) = absurd (omega arith)
+  shared_part-parts here (other_root is _ _ _) = absurd (omega arith)
+  shared_part-parts here (bad_value is _ _ _ _ _ _ _) = absurd (omega arith)
+  shared_part-parts here (no_instance is _ _ _ _ _ _) = absurd (omega arith)
+  shared_part-parts here (off_target is _ _ _ _ _ _ _ _) = absurd (omega arith)
+  shared_part-parts here (bad_number is _ _ _ _) = absurd (omega arith)
+  shared_part-parts here (misnumbered is _ _ _ _) = absurd (omega arith)
+  shared_part-parts here (bad_count is _ _ _ _) = absurd (omega arith)
+  shared_part-parts here (false_rule is _ _ _ _ _ _) = absurd (omega arith)
+
+  pub misnumbered-parts : code ≡ 8 → BreaksAt m c code i k → (k ≡ 0) × (1 ≤ i) × (i < length c) × IsFalse (is_in_turn c i)
+  misnumbered-parts here (misnumbered is item past within out) = (item, past, within, out)
+  misnumbered-parts here (too_many is _ _ _) = absurd (omega arith)
+  misnumbered-parts here (other_root is _ _ _) = absurd (omega arith)
+  misnumbered-parts here (bad_value is _ _ _ _ _ _ _) = absurd (omega arith)
+  misnumbered-parts here (no_instance is _ _ _ _ _ _) = absurd (omega arith)
+  misnumbered-parts here (off_target is _ _ _ _ _ _ _ _) = absurd (omega arith)
+  misnumbered-parts here (bad_number is _ _ _ _) = absurd (omega arith)
+  misnumbered-parts here (shared_part is _ _ _) = absurd (omega arith)
+  misnumbered-parts here (bad_count is _ _ _ _) = absurd (omega arith)
+  misnumbered-parts here (false_rule is _ _ _ _ _ _) = absurd (omega arith)
+
+  pub bad_count-parts : code ≡ 9 → BreaksAt m c code i k → (i ≡ 0) × (n : CountBound) × Has m.bounds k n × IsFalse (is_between n.low n.high (count_by (under m n.kind) c))
+  bad_count-parts here (bad_count is instance n bound bad) = (instance, n, bound, bad)
+  bad_count-parts here (too_many is _ _ _) = absurd (omega arith)
+  bad_count-parts here (other_root is _ _ _) = absurd (omega arith)
+  bad_count-parts here (bad_value is _ _ _ _ _ _ _) = absurd (omega arith)
+  bad_count-parts here (no_instance is _ _ _ _ _ _) = absurd (omega arith)
+  bad_count-parts here (off_target is _ _ _ _ _ _ _ _) = absurd (omega arith)
+  bad_count-parts here (bad_number is _ _ _ _) = absurd (omega arith)
+  bad_count-parts here (shared_part is _ _ _) = absurd (omega arith)
+  bad_count-parts here (misnumbered is _ _ _ _) = absurd (omega arith)
+  bad_count-parts here (false_rule is _ _ _ _ _ _) = absurd (omega arith)
+
+  pub false_rule-parts : code ≡ 10 → BreaksAt m c code i k → (x : Instance) × (r : Rule) × Has c i x × Has m.rules k r × IsTrue (under m r.kind x) × IsFalse (is_true_at m c i r.holds)
+  false_rule-parts here (false_rule is x r stands rule kind wrong) = (x, r, stands, rule, kind, wrong)
+  false_rule-parts here (too_many is _ _ _) = absurd (omega arith)
+  false_rule-parts here (other_root is _ _ _) = absurd (omega arith)
+  false_rule-parts here (bad_value is _ _ _ _ _ _ _) = absurd (omega arith)
+  false_rule-parts here (no_instance is _ _ _ _ _ _) = absurd (omega arith)
+  false_rule-parts here (off_target is _ _ _ _ _ _ _ _) = absurd (omega arith)
+  false_rule-parts here (bad_number is _ _ _ _) = absurd (omega arith)
+  false_rule-parts here (shared_part is _ _ _) = absurd (omega arith)
+  false_rule-parts here (misnumbered is _ _ _ _) = absurd (omega arith)
+  false_rule-parts here (bad_count is _ _ _ _) = absurd (omega arith)

@@ -1,0 +1,142 @@
+-- The ports whose links break a test are those at which the test of links and ports side by side passes.
+use Rattle.std.proofs.Common.{◌≡◌, ℕ, ◌<◌, ◌≤◌, ◌∙◌, ap, sym, subst, Bool, true, false, not, nat_le, List, length, Option, Some, Contains, refl, leb-true, le-leb, arith}
+use Rattle.std.specs.Prelude.{slice_get, position}
+use Rattle.std.specs.List.{zip}
+use Rattle.std.proofs.lemmas.Option.{same_Some, slice_get_within, slice_get-get_or, get_or_from_slice_get}
+use Rattle.prod_model.specs.declared.model.Model.{Model}
+use Rattle.prod_model.specs.declared.model.PortAt.{PortAt}
+use Rattle.prod_model.specs.Taxonomy.{ports_at}
+use Rattle.prod_model.specs.Valid.{IsValid}
+use Rattle.config_value.specs.declared.configuration.Instance.{Instance}
+use Rattle.config_value.specs.Value.{under}
+use Rattle.config_value.proofs.Places.{list_any_at, list_any_from, option_map_or_at, option_map_or_from}
+use Rattle.answer_check.specs.declared.links.PortTest.{PortTest}
+use Rattle.answer_check.specs.declared.links.PortTest.TheVariants.{Leads, OnTarget, Number}
+use Rattle.answer_check.specs.Breaks.{Breaks, HasPort, too_many, other_root, bad_value, no_instance, off_target, bad_number, shared_part, misnumbered, bad_count, false_rule}
+use Rattle.answer_check.specs.Finds.{BreaksAt, FindsItem}
+use Rattle.answer_check.specs.PortTests.{code_of, is_off, breaks_port}
+use Rattle.answer_check.proofs.Items.{Passes, finds-position, finds-same}
+use Rattle.answer_check.proofs.FewItems.{few_ports}
+use Rattle.answer_check.proofs.ZippedLists.{slice_get-zip, zip-first, zip-second}
+
+not-true : (b : Bool) → not b ≡ true → b ≡ false
+not-true b h = grind arith
+
+not-from : (b : Bool) → b ≡ false → not b ≡ true
+not-from b h = ap not h
+
+contains-at : (xs : List ℕ) (k x : ℕ) → slice_get xs k ≡ Some x → Contains xs x
+contains-at xs k x at = (k, slice_get_within xs k x at, get_or_from_slice_get xs k x x at)
+
+at-contained : (xs : List ℕ) (x : ℕ) (among : Contains xs x) → slice_get xs among.0 ≡ Some x
+at-contained xs x among = slice_get-get_or xs among.0 x among.1 ∙ ap Some among.2
+
+module _ (m : Model) (c : List Instance) (i : ℕ) (x : Instance) (stands : slice_get c i ≡ Some x) where
+  abbrev Test : PortTest → PortAt × List ℕ → Bool
+  Test test pair = breaks_port m c test pair.0 pair.1
+
+  abbrev pairs : List (PortAt × List ℕ)
+  pairs = zip (ports_at m x.kind) x.links
+
+  port_at : (code k : ℕ) (pair : PortAt × List ℕ) → slice_get pairs k ≡ Some pair → HasPort m c (record { code = code; instance = i; item = k }) pair.0 pair.1
+  port_at code k pair at = record { x = x; stands = stands; port = zip-first (ports_at m x.kind) x.links k pair at; links_there = zip-second (ports_at m x.kind) x.links k pair at }
+
+  -- what passes a test at a place breaks the configuration there
+  pub breaks-from : (test : PortTest) (k : ℕ) → Passes (Test test) pairs k → BreaksAt m c (code_of test) i k
+  breaks-from Leads k passing =
+      let port = port_at 4 k passing.element passing.there in
+      let found = list_any_at (λ j. nat_le (length c) j) passing.element.1 passing.passes in
+      no_instance refl passing.element.0 passing.element.1 found.1 port (contains-at passing.element.1 found.0 found.1 found.2) (leb-true (length c) found.1 found.3)
+  breaks-from OnTarget k passing =
+      let port = port_at 5 k passing.element passing.there in
+      let found = list_any_at (is_off m c passing.element.0.target) passing.element.1 passing.passes in
+      let other = option_map_or_at (λ y. not (under m passing.element.0.target y)) (slice_get c found.1) found.3 in
+      off_target refl passing.element.0 passing.element.1 found.1 other.0 port (contains-at passing.element.1 found.0 found.1 found.2) other.1 (not-true _ other.2)
+  breaks-from Number k passing =
+      bad_number refl passing.element.0 passing.element.1 (port_at 6 k passing.element passing.there) (not-true _ passing.passes)
+
+  same_links : (code k : ℕ) (p : PortAt) (links : List ℕ) → HasPort m c (record { code = code; instance = i; item = k }) p links → slice_get pairs k ≡ Some (p, links)
+  same_links code k p links port =
+      let same : port.x ≡ x = same_Some port.x x (sym port.stands ∙ stands) in
+      let IsPort : Instance → Type 0 = λ y. slice_get (ports_at m y.kind) k ≡ Some p in
+      let HasLinks : Instance → Type 0 = λ y. slice_get y.links k ≡ Some links in
+      slice_get-zip (ports_at m x.kind) x.links k p links (subst IsPort same port.port) (subst HasLinks same port.links_there)
+
+  passes-from : (test : PortTest) (code k : ℕ) (p : PortAt) (links : List ℕ) → HasPort m c (record { code = code; instance = i; item = k }) p links
+      → breaks_port m c test p links ≡ true → Passes (Test test) pairs k
+  passes-from test code k p links port passes = record { element = (p, links); there = same_links code k p links port; passes = passes }
+
+  leads : (code k : ℕ) (p : PortAt) (links : List ℕ) (j : ℕ) → HasPort m c (record { code = code; instance = i; item = k }) p links → Contains links j → length c ≤ j → Passes (Test Leads) pairs k
+  leads code k p links j port among outside =
+      passes-from Leads code k p links port (list_any_from (λ n. nat_le (length c) n) links among.0 j (at-contained links j among) (le-leb (length c) j outside))
+
+  on_target : (code k : ℕ) (p : PortAt) (links : List ℕ) (j : ℕ) (y : Instance) → HasPort m c (record { code = code; instance = i; item = k }) p links → Contains links j
+      → slice_get c j ≡ Some y → under m p.target y ≡ false → Passes (Test OnTarget) pairs k
+  on_target code k p links j y port among there off =
+      passes-from OnTarget code k p links port (list_any_from (is_off m c p.target) links among.0 j (at-contained links j among)
+      (option_map_or_from (λ z. not (under m p.target z)) (slice_get c j) y there (not-from _ off)))
+
+  -- what breaks the configuration at a place passes the test there
+  pub passes-broken : (test : PortTest) (k : ℕ) → BreaksAt m c (code_of test) i k → Passes (Test test) pairs k
+  passes-broken Leads k (no_instance is p links j port among outside) = leads 4 k p links j port among outside
+  passes-broken Leads k (too_many is _ _ _) = absurd (omega arith)
+  passes-broken Leads k (other_root is _ _ _) = absurd (omega arith)
+  passes-broken Leads k (bad_value is _ _ _ _ _ _ _) = absurd (omega arith)
+  passes-broken Leads k (off_target is _ _ _ _ _ _ _ _) = absurd (omega arith)
+  passes-broken Leads k (bad_number is _ _ _ _) = absurd (omega arith)
+  passes-broken Leads k (shared_part is _ _ _) = absurd (omega arith)
+  passes-broken Leads k (misnumbered is _ _ _ _) = absurd (omega arith)
+  passes-broken Leads k (bad_count is _ _ _ _) = absurd (omega arith)
+  passes-broken Leads k (false_rule is _ _ _ _ _ _) = absurd (omega arith)
+  passes-broken OnTarget k (off_target is p links j y port among there off) = on_target 5 k p links j y port among there off
+  passes-broken OnTarget k (no_instance is _ _ _ _ _ _) = absurd (omega arith)
+  passes-broken OnTarget k (too_many is _ _ _) = absurd (omega arith)
+  passes-broken OnTarget k (other_root is _ _ _) = absurd (omega arith)
+  passes-broken OnTarget k (bad_value is _ _ _ _ _ _ _) = absurd (omega arith)
+  passes-broken OnTarget k (bad_number is _ _ _ _) = absurd (omega arith)
+  passes-broken OnTarget k (shared_part is _ _ _) = absurd (omega arith)
+  passes-broken OnTarget k (misnumbered is _ _ _ _) = absurd (omega arith)
+  passes-broken OnTarget k (bad_count is _ _ _ _) = absurd (omega arith)
+  passes-broken OnTarget k (false_rule is _ _ _ _ _ _) = absurd (omega arith)
+  passes-broken Number k (bad_number is p links port wrong) = passes-from Number 6 k p links port (not-from _ wrong)
+  passes-broken Number k (no_instance is _ _ _ _ _ _) = absurd (omega arith)
+  passes-broken Number k (off_target is _ _ _ _ _ _ _ _) = absurd (omega arith)
+  passes-broken Number k (too_many is _ _ _) = absurd (omega arith)
+  passes-broken Number k (other_root is _ _ _) = absurd (omega arith)
+  passes-broken Number k (bad_value is _ _ _ _ _ _ _) = absurd (omega arith)
+  passes-broken Number k (shared_part is _ _ _) = absurd (omega arith)
+  passes-broken Number k (misnumbered is _ _ _ _) = absurd (omega arith)
+  passes-broken Number k (bad_count is _ _ _ _) = absurd (omega arith)
+  passes-broken Number k (false_rule is _ _ _ _ _ _) = absurd (omega arith)
+
+  -- the first port that breaks a test
+  pub finds_port : (test : PortTest) (o : Option ℕ) → o ≡ position (Test test) pairs → FindsItem (BreaksAt m c (code_of test) i) o
+  finds_port test o is = finds-same (Passes (Test test) pairs) (BreaksAt m c (code_of test) i) o (breaks-from test) (passes-broken test) (finds-position (Test test) pairs o is)
+
+  -- a port's place is small
+  pub few_places : IsValid m → (test : PortTest) (k : ℕ) → Some k ≡ position (Test test) pairs → k < 16
+  few_places valid test k is =
+      let passing = (finds-position (Test test) pairs (Some k) is).0 in
+      let within : k < length (ports_at m x.kind) = slice_get_within (ports_at m x.kind) k passing.element.0 (zip-first (ports_at m x.kind) x.links k passing.element passing.there) in
+      omega (arith, few_ports m x.kind valid)
+
+-- what breaks a test of ports at an instance stands at an instance
+pub broken-within : (m : Model) (c : List Instance) (test : PortTest) (i k : ℕ) → BreaksAt m c (code_of test) i k → i < length c
+broken-within m c test i k broken = within (code_of test) (ports_only test) broken
+  where
+    within : (code : ℕ) → (4 ≤ code) × (code ≤ 6) → Breaks m c (record { code = code; instance = i; item = k }) → i < length c
+    within code only (no_instance is p links j port among outside) = slice_get_within c i port.x port.stands
+    within code only (off_target is p links j y port among there off) = slice_get_within c i port.x port.stands
+    within code only (bad_number is p links port wrong) = slice_get_within c i port.x port.stands
+    within code only (too_many is _ _ _) = absurd (omega arith)
+    within code only (other_root is _ _ _) = absurd (omega arith)
+    within code only (bad_value is _ _ _ _ _ _ _) = absurd (omega arith)
+    within code only (shared_part is _ _ _) = absurd (omega arith)
+    within code only (misnumbered is _ _ _ _) = absurd (omega arith)
+    within code only (bad_count is _ _ _ _) = absurd (omega arith)
+    within code only (false_rule is _ _ _ _ _ _) = absurd (omega arith)
+
+    ports_only : (t : PortTest) → (4 ≤ code_of t) × (code_of t ≤ 6)
+    ports_only Leads = (omega arith, omega arith)
+    ports_only OnTarget = (omega arith, omega arith)
+    ports_only Number = (omega arith, omega arith)

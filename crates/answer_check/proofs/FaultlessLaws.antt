@@ -1,0 +1,81 @@
+-- Rules and requests of a valid model and order have bounds where they are asked.
+use Rattle.std.proofs.Common.{◌≡◌, ℕ, ◌<◌, ◌∙◌, ap, ap₂, sym, Bool, true, false, not, ◌||◌, List, length, Option, Some, None, refl, arith}
+use Rattle.std.specs.Prelude.{slice_get, IsTrue}
+use Rattle.std.proofs.lemmas.Bool.{and_parts, true≢false}
+use Rattle.std.proofs.lemmas.Option.{same_Some, slice_get_within}
+use Rattle.prod_model.specs.declared.model.Model.{Model}
+use Rattle.prod_model.specs.declared.model.Order.{Order}
+use Rattle.prod_model.specs.declared.model.Rule.{Rule}
+use Rattle.prod_model.specs.declared.model.Request.{Request}
+use Rattle.prod_model.specs.declared.expr.Expr.{Expr}
+use Rattle.prod_model.specs.declared.expr_bounds.Bounds.{Bounds}
+use Rattle.prod_model.specs.declared.expr_bounds.Bounds.TheVariants.{Number, Truth}
+use Rattle.prod_model.specs.Limits.{most_nesting}
+use Rattle.prod_model.specs.Nesting.{nesting}
+use Rattle.std.specs.Prelude.{nat_le}
+use Rattle.prod_model.specs.ExprBounds.{bounds_at, is_truth, is_truth_at}
+use Rattle.prod_model.specs.Valid.{IsValid, IsValidOrder, has_faultless_rules}
+use Rattle.config_value.specs.declared.configuration.Instance.{Instance}
+use Rattle.config_value.specs.Shaped.{is_shaped}
+use Rattle.config_value.specs.Value.{under, is_true_at}
+use Rattle.config_value.proofs.Places.{list_all_at}
+use Rattle.config_value.proofs.ShapedSentences.{shaped_sentences}
+use Rattle.answer_check.specs.Breaks.{false_rule}
+use Rattle.answer_check.specs.Finds.{BreaksAt}
+use Rattle.answer_check.proofs.BreakParts.{false_rule-parts}
+use Rattle.answer_check.specs.Faultless.{HasBoundsAt}
+
+is_truth-told : (o : Option Bounds) → is_truth o ≡ true → o ≡ Some Truth
+is_truth-told (Some Truth) is = refl
+is_truth-told (Some (Number low high)) is = absurd cc
+is_truth-told None is = absurd cc
+
+-- a truth at a type has bounds at an instance under it
+pub bounded : (m : Model) (c : List Instance) (i : ℕ) (e : Expr) (t : ℕ) (x : Instance) → slice_get c i ≡ Some x → IsTrue (under m t x) → IsTrue (is_truth_at m t e) → HasBoundsAt m c i e
+bounded m c i e t x stands under truth = record {
+  instance = x;
+  stands = stands;
+  kind = t;
+  under = under;
+  bounds = Truth;
+  told = is_truth-told (bounds_at m e t) (and_parts (nat_le (nesting e) most_nesting) (is_truth (bounds_at m e t)) truth).1;
+}
+
+pub faultless_rule : (m : Model) (k : ℕ) (r : Rule) → IsValid m → slice_get m.rules k ≡ Some r → IsTrue (is_truth_at m r.kind r.holds)
+unfolding has_faultless_rules
+faultless_rule m k r valid rule = list_all_at (λ s. is_truth_at m s.kind s.holds) m.rules valid.faultless_rules k r rule
+
+pub request_bounded : (m : Model) (o : Order) (c : List Instance) (k : ℕ) (r : Request) → IsValidOrder m o → IsTrue (is_shaped m c) → slice_get o.requests k ≡ Some r → HasBoundsAt m c 0 r.holds
+request_bounded m o c k r valid shaped request =
+    let root = ((shaped_sentences m c).0 shaped).root in
+    bounded m c 0 r.holds m.root root.instance root.there root.of_type (list_all_at (λ s. is_truth_at m m.root s.holds) o.requests valid.requests k r request)
+
+-- ---- what is false
+
+false-parts : (a b : Bool) → (not a || b) ≡ false → (a ≡ true) × (b ≡ false)
+false-parts a b is = (grind arith, grind arith)
+
+false-from : (a b : Bool) → a ≡ true → b ≡ false → (not a || b) ≡ false
+false-from a b all none = grind arith
+
+module _ (m : Model) (c : List Instance) (i k : ℕ) (x : Instance) (r : Rule) (stands : slice_get c i ≡ Some x) (rule : slice_get m.rules k ≡ Some r) where
+  abbrev Follows : Bool
+  Follows = not (under m r.kind x) || is_true_at m c i r.holds
+
+  pub rule_broken : Follows ≡ false → BreaksAt m c 10 i k
+  rule_broken wrong = let parts = false-parts (under m r.kind x) (is_true_at m c i r.holds) wrong in false_rule refl x r stands rule parts.0 parts.1
+
+  pub rule_kept : Follows ≡ true → BreaksAt m c 10 i k → ⊥
+  rule_kept right broken =
+      let parts = false_rule-parts m c 10 i k refl broken in
+      let same_x : parts.0 ≡ x = same_Some parts.0 x (sym parts.2 ∙ stands) in
+      let same_r : parts.1 ≡ r = same_Some parts.1 r (sym parts.3 ∙ rule) in
+      let under' : under m r.kind x ≡ true = ap₂ (λ s y. under m s.kind y) (sym same_r) (sym same_x) ∙ parts.4 in
+      let false' : is_true_at m c i r.holds ≡ false = ap (λ s. is_true_at m c i s.holds) (sym same_r) ∙ parts.5 in
+      true≢false (sym right ∙ false-from (under m r.kind x) (is_true_at m c i r.holds) under' false')
+
+pub rule-within : (m : Model) (c : List Instance) (i k : ℕ) → BreaksAt m c 10 i k → i < length c
+rule-within m c i k broken = let parts = false_rule-parts m c 10 i k refl broken in slice_get_within c i parts.0 parts.2
+
+pub rule-item_within : (m : Model) (c : List Instance) (i k : ℕ) → BreaksAt m c 10 i k → k < length m.rules
+rule-item_within m c i k broken = let parts = false_rule-parts m c 10 i k refl broken in slice_get_within m.rules k parts.1 parts.3

@@ -1,0 +1,32 @@
+pub mod NoTypes
+pub mod Items
+pub mod FewItems
+pub mod ZippedLists
+pub mod BrokenPorts
+pub mod BadValues
+pub mod OwnWords
+pub mod Counted
+pub mod BreakParts
+pub mod Singles
+pub mod Masks64
+pub mod SeenParts
+pub mod SharedParts
+pub mod LinkPushed
+pub mod TurnMasks
+mod Forests
+mod ListLaws
+pub mod LineLaws
+mod EntryLaws
+pub mod NarrowingLaws
+pub mod HeldLaws
+mod SumLaws
+mod ToldLaws
+pub mod BoundsLaws
+pub mod SpelledLaws
+pub mod IntSums
+pub mod EvaluationLaws
+pub mod BoundsUse
+pub mod FaultlessLaws
+pub mod FirstBreaks
+pub mod NoBreaks
+pub mod RacksSpelled

@@ -1,0 +1,264 @@
+-- A type has each attribute and port of the types above it, in the same place and under the same id, narrowed.
+use Rattle.std.proofs.Common.{◌≡◌, ℕ, zero, suc, ◌≤◌, Bool, true, false, not, cond, ◌&&◌, List, [], ◌∷◌, ◌++◌, map, Option, Some, None, refl, sym, ap, ◌∙◌, subst, inl, inr, le_refl, leb-true, arith}
+use Rattle.std.specs.Prelude.{slice_get, IsTrue, ◌≤ℤ◌, nat_le}
+use Rattle.std.specs.Option.{option_map, option_map_or, option_and_then}
+use Rattle.std.specs.List.{list_all, find}
+use Rattle.std.specs.Bool.{passes}
+use Rattle.std.specs.Int.Signed.{le_z_yes}
+use Rattle.std.proofs.lemmas.Bool.{false≢true, and_parts}
+use Rattle.std.proofs.lemmas.Int.{ints}
+use Rattle.std.proofs.lemmas.List.Folds.{list_any-append}
+use Rattle.std.proofs.lemmas.Option.{same_Some, none-some}
+use Rattle.prod_model.specs.declared.model.Model.{Model}
+use Rattle.prod_model.specs.declared.model.TypeDecl.{TypeDecl}
+use Rattle.prod_model.specs.declared.model.AttrDecl.{AttrDecl}
+use Rattle.prod_model.specs.declared.model.PortDecl.{PortDecl}
+use Rattle.prod_model.specs.declared.model.AttrAt.{AttrAt}
+use Rattle.prod_model.specs.declared.model.PortAt.{PortAt}
+use Rattle.prod_model.specs.declared.model.Domain.{Domain}
+use Rattle.prod_model.specs.declared.model.Domain.TheVariants.{Range, Words}
+use Rattle.prod_model.specs.Names.{same_text, is_distinct}
+use Rattle.prod_model.specs.Forest.{is_a}
+use Rattle.prod_model.specs.Taxonomy.{Named, declarations_of, kept_entry, entries_of, first_id, new_declarations, new_entries, attributes_of, ports_of, attributes_at, ports_at, made_attribute, made_port, words_of}
+use Rattle.prod_model.specs.Valid.{IsDeclared, inherited, has_distinct_names, has_narrowings, attribute_narrows, port_narrows, narrows_domain, same_kind}
+use Rattle.config_value.specs.ShapedSentences.{IsAt}
+use Rattle.config_value.proofs.Places.{list_all_at, list_any_from}
+use Rattle.answer_check.proofs.Forests.{HasNoCycle, no_cycle}
+use Rattle.answer_check.proofs.LineLaws.{HasParent, along_lines, is_a-cases, is_a-trans}
+use Rattle.answer_check.proofs.ListLaws.{HasEach, find_at, map_at, at_map, at_front}
+use Rattle.answer_check.proofs.EntryLaws.{same_text-refl, same_text-same, entries_parent, names_distinct}
+
+-- ---- what a narrowing is
+
+-- where the first domain is a range, the second is a range within it
+abbrev pub IsRangeWithin : Domain → Domain → Type 0
+IsRangeWithin (Range wide_low wide_high) (Range low high) = (wide_low ≤ℤ low) × (high ≤ℤ wide_high)
+IsRangeWithin (Range wide_low wide_high) (Words words) = ⊥
+IsRangeWithin (Words wide) d = Unit {0}
+
+-- the second attribute is the first one, perhaps narrowed
+pub record IsAttributeWithin (a b : AttrAt) : Type 0 where
+  pub same_id : b.id ≡ a.id
+  pub within : IsRangeWithin a.domain b.domain
+
+-- the second port is the first one, perhaps narrowed
+pub record IsPortWithin (m : Model) (p q : PortAt) : Type 0 where
+  pub same_id : q.id ≡ p.id
+  pub low : p.low ≤ q.low
+  pub high : q.high ≤ p.high
+  pub target : (t : ℕ) → IsTrue (is_a m t q.target) → IsTrue (is_a m t p.target)
+
+-- a range is within itself
+range_within-refl : (d : Domain) → IsRangeWithin d d
+range_within-refl (Range low high) = (omega (arith, ints), omega (arith, ints))
+range_within-refl (Words words) = tt
+
+-- a range within a range within another is within that one
+range_within-trans : (c d e : Domain) → IsRangeWithin c d → IsRangeWithin d e → IsRangeWithin c e
+range_within-trans (Range l h) (Range l' h') (Range l'' h'') first second = (omega (arith, ints, first.0, second.0), omega (arith, ints, first.1, second.1))
+range_within-trans (Range l h) (Range l' h') (Words ws) first second = absurd second
+range_within-trans (Range l h) (Words ws) e first second = absurd first
+range_within-trans (Words ws) d e first second = tt
+
+-- an attribute narrows itself
+attribute_within-refl : (a : AttrAt) → IsAttributeWithin a a
+attribute_within-refl a = record { same_id = refl; within = range_within-refl a.domain }
+
+-- what narrows a narrowed attribute narrows the attribute
+attribute_within-trans : (a b c : AttrAt) → IsAttributeWithin a b → IsAttributeWithin b c → IsAttributeWithin a c
+attribute_within-trans a b c first second = record {
+  same_id = second.same_id ∙ first.same_id;
+  within = range_within-trans a.domain b.domain c.domain first.within second.within;
+}
+
+-- a port narrows itself
+port_within-refl : (m : Model) (p : PortAt) → IsPortWithin m p p
+port_within-refl m p = record { same_id = refl; low = le_refl _; high = le_refl _; target = λ t under. under }
+
+-- what narrows a narrowed port narrows the port
+port_within-trans : (m : Model) (p q r : PortAt) → IsPortWithin m p q → IsPortWithin m q r → IsPortWithin m p r
+port_within-trans m p q r first second = record {
+  same_id = second.same_id ∙ first.same_id;
+  low = omega (arith, first.low, second.low);
+  high = omega (arith, first.high, second.high);
+  target = λ t under. first.target t (second.target t under);
+}
+
+-- each place's element of the first list has one that narrows it in the second: twice over
+has_each-trans : {A : Type 0} (R : A → A → Type 0) → ((a b c : A) → R a b → R b c → R a c) → (xs ys zs : List A) → HasEach R xs ys → HasEach R ys zs → HasEach R xs zs
+has_each-trans R trans xs ys zs first second k x there =
+    let y = first k x there in
+    let z = second k y.0 y.1 in
+    (z.0, z.1, trans x y.0 z.0 y.2 z.2)
+
+-- ---- one step of a line
+
+-- a test that cannot be true is false
+not_true : (b : Bool) → (b ≡ true → ⊥) → b ≡ false
+not_true true not = absurd (not refl)
+not_true false not = refl
+
+-- where no name stands twice, an entry is found under its name
+find_entry : {A : Type 0} (es : List (Named A)) → IsTrue (is_distinct (map (λ e. e.name) es)) → (k : ℕ) (e : Named A) → IsAt es k e
+    → find (λ x. same_text x.name e.name) es ≡ Some e
+find_entry [] distinct k e there = absurd (none-some e there)
+find_entry (x ∷ es) distinct zero e there =
+    let is : x ≡ e = same_Some x e there in
+    let passes : IsTrue (same_text x.name e.name) = ap (λ n. same_text n e.name) (ap (λ z. z.name) is) ∙ same_text-refl e.name in
+    ap (λ b. cond b (Some x) (find (λ y. same_text y.name e.name) es)) passes ∙ ap Some is
+find_entry (x ∷ es) distinct (suc k) e there =
+    let names = map (λ (e : Named _). e.name) es in
+    let other = (and_parts _ _ distinct).0 in
+    let fails : same_text x.name e.name ≡ false =
+    not_true (same_text x.name e.name) (λ same.
+    false≢true (sym (ap not (list_any_from (same_text x.name) names k e.name (at_map (λ e. e.name) es k e there) same)) ∙ other)) in
+    ap (λ b. cond b (Some x) (find (λ y. same_text y.name e.name) es)) fails ∙ find_entry es (and_parts _ _ distinct).1 k e there
+
+module _ {D A : Type 0} (declared : TypeDecl → List D) (name_of : D → List ℕ) (made : ℕ → D → A) (narrowed : D → A → A) (types : List TypeDecl) where
+  -- A type has in each place of its parent's entries what narrows the entry, where each declaration of the type narrows what
+  -- the parent has under its name.
+  each_kept : (R : A → A → Type 0) → ((a : A) → R a a) → HasNoCycle types
+      → ((u : ℕ) → IsTrue (is_distinct (map name_of (declarations_of declared name_of types u)))) → (t p : ℕ) → HasParent types t p
+      → ((j : ℕ) (d : D) (e : Named A) → IsAt (declarations_of declared name_of types t) j d
+      → find (λ x. same_text x.name (name_of d)) (entries_of declared name_of made narrowed types p) ≡ Some e → R e.what (narrowed d e.what))
+      → HasEach R (map (λ e. e.what) (entries_of declared name_of made narrowed types p)) (map (λ e. e.what) (entries_of declared name_of made narrowed types t))
+  each_kept R same forest distinct t p above each k x there =
+      let entry = map_at (λ e. e.what) before k x there in
+      let e = entry.0 in
+      let kept = kept_entry declared name_of made narrowed ds e in
+      let stands : IsAt after k kept = subst (λ l. IsAt l k kept) (sym (entries_parent declared name_of made narrowed types forest t p above))
+      (at_front (map (kept_entry declared name_of made narrowed ds) before) new k kept (at_map (kept_entry declared name_of made narrowed ds) before k e entry.1)) in
+      let found : find (λ x. same_text x.name e.name) before ≡ Some e =
+      find_entry before (names_distinct declared name_of made narrowed types forest distinct p) k e entry.1 in
+      (kept.what, at_map (λ e. e.what) after k kept stands, subst (λ a. R a kept.what) entry.2 (by e found (find (λ d. same_text (name_of d) e.name) ds) refl))
+    where
+      before : List (Named A)
+      before = entries_of declared name_of made narrowed types p
+
+      after : List (Named A)
+      after = entries_of declared name_of made narrowed types t
+
+      ds : List D
+      ds = declarations_of declared name_of types t
+
+      new : List (Named A)
+      new = new_entries declared name_of made narrowed (first_id declared name_of types t) (new_declarations declared name_of types t)
+
+      by : (e : Named A) → find (λ x. same_text x.name e.name) before ≡ Some e → (o : Option D) → find (λ d. same_text (name_of d) e.name) ds ≡ o
+          → R e.what (option_map_or (λ d. record { name = e.name; what = narrowed d e.what }) o e).what
+      by e found None is = same e.what
+      by e found (Some d) is =
+          let at = find_at (λ d. same_text (name_of d) e.name) ds d is in
+          let named : name_of d ≡ e.name = same_text-same (name_of d) e.name at.2 in
+          each at.0 d e at.1 (ap (λ n. find (λ x. same_text x.name n) before) named ∙ found)
+
+-- ---- attributes and ports
+
+-- of names of which none stands twice, none of the first stands twice
+distinct_front : (ns ks : List (List ℕ)) → IsTrue (is_distinct (ns ++ ks)) → IsTrue (is_distinct ns)
+distinct_front [] ks distinct = refl
+distinct_front (n ∷ ns) ks distinct = let rest = distinct_front ns ks in let apart = list_any-append (same_text n) ns ks in grind (arith)
+
+-- and the names after them
+distinct_back : (ns ks : List (List ℕ)) → IsTrue (is_distinct (ns ++ ks)) → IsTrue (is_distinct ks)
+distinct_back [] ks distinct = distinct
+distinct_back (n ∷ ns) ks distinct = distinct_back ns ks (and_parts _ _ distinct).1
+
+-- the test of one type in `has_distinct_names`
+abbrev distinct_members : TypeDecl → Bool
+distinct_members d = is_distinct (map (λ a. a.name) d.attributes ++ map (λ p. p.name) d.ports) && list_all (λ a. is_distinct (words_of a.domain)) d.attributes
+
+-- no declaration's name stands twice among a type's attributes, nor among its ports
+distinct_declarations : (m : Model) → IsDeclared m → (u : ℕ)
+    → IsTrue (is_distinct (map (λ d. d.name) (declarations_of (λ d. d.attributes) (λ d. d.name) m.types u)))
+    × IsTrue (is_distinct (map (λ d. d.name) (declarations_of (λ d. d.ports) (λ d. d.name) m.types u)))
+unfolding has_distinct_names
+distinct_declarations m is u = by (slice_get m.types u) refl
+  where
+    each : IsTrue (list_all distinct_members m.types)
+    each = (and_parts (is_distinct (map (λ d. d.name) m.types) && is_distinct (map (λ r. r.name) m.rules)) (list_all distinct_members m.types) is.formed.distinct_names).1
+
+    by : (o : Option TypeDecl) → slice_get m.types u ≡ o
+        → IsTrue (is_distinct (map (λ d. d.name) (option_map_or (λ d. d.attributes) o []))) × IsTrue (is_distinct (map (λ d. d.name) (option_map_or (λ d. d.ports) o [])))
+    by None stands = (refl, refl)
+    by (Some d) stands =
+        let both = (and_parts _ _ (list_all_at distinct_members m.types each u d stands)).0 in
+        let attributes = map (λ (a : AttrDecl). a.name) d.attributes in
+        let ports = map (λ (p : PortDecl). p.name) d.ports in
+        (distinct_front attributes ports both, distinct_back attributes ports both)
+
+-- what a declared type's declarations are
+declared_narrows : (m : Model) → IsDeclared m → (t : ℕ) (d : TypeDecl) → slice_get m.types t ≡ Some d
+    → IsTrue (list_all (attribute_narrows m d) d.attributes) × IsTrue (list_all (port_narrows m d) d.ports)
+unfolding has_narrowings
+declared_narrows m is t d stands =
+    let test = λ (d : TypeDecl). list_all (attribute_narrows m d) d.attributes && list_all (port_narrows m d) d.ports in
+    and_parts _ _ (list_all_at test m.types is.taxonomy.narrowings t d stands)
+
+-- a domain that narrows a range is a range within it
+narrows_within : (d wide : Domain) → IsTrue (narrows_domain d wide) → IsRangeWithin wide d
+narrows_within (Range low high) (Range wide_low wide_high) h = let both = and_parts _ _ h in (le_z_yes (passes _ both.0), le_z_yes (passes _ both.1))
+narrows_within (Words words) (Range wide_low wide_high) h = absurd cc
+narrows_within d (Words wide) h = tt
+
+-- a type has its parent's attributes, narrowed
+attributes_kept : (m : Model) → IsDeclared m → (t p : ℕ) → HasParent m.types t p → HasEach IsAttributeWithin (attributes_at m p) (attributes_at m t)
+unfolding attributes_of
+attributes_kept m is t p above =
+    let types = m.types in
+    each_kept (λ d. d.attributes) (λ d. d.name) made_attribute (λ d a. made_attribute a.id d) m.types IsAttributeWithin attribute_within-refl (no_cycle m is.taxonomy.forest)
+    (λ u. (distinct_declarations m is u).0) t p above (λ j d e there found.
+    let declared : IsAt above.decl.attributes j d = subst (λ o. IsAt (option_map_or (λ d. d.attributes) o []) j d) above.stands there in
+    let narrows = list_all_at (attribute_narrows m above.decl) above.decl.attributes (declared_narrows m is t above.decl above.stands).0 j d declared in
+    let above_it : inherited attributes_of m above.decl d.name ≡ Some e.what =
+    ap (λ o. option_map (λ e. e.what) (option_and_then (λ t. find (λ e. same_text e.name d.name) (attributes_of m.types t)) o)) above.parent
+    ∙ ap (option_map (λ e. e.what)) found in
+    let within : IsTrue (narrows_domain d.domain e.what.domain) =
+    sym (ap (λ o. option_map_or (λ b. narrows_domain d.domain b.domain) o true) above_it) ∙ (and_parts _ _ narrows).1 in
+    record { same_id = refl; within = narrows_within d.domain e.what.domain within })
+
+-- a type has its parent's ports, narrowed
+ports_kept : (m : Model) → IsDeclared m → (t p : ℕ) → HasParent m.types t p → HasEach (IsPortWithin m) (ports_at m p) (ports_at m t)
+unfolding ports_of
+ports_kept m is t p above =
+    each_kept (λ d. d.ports) (λ d. d.name) made_port (λ d p. made_port p.id d) m.types (IsPortWithin m) (port_within-refl m) (no_cycle m is.taxonomy.forest)
+    (λ u. (distinct_declarations m is u).1) t p above (λ j d e there found.
+    let declared : IsAt above.decl.ports j d = subst (λ o. IsAt (option_map_or (λ d. d.ports) o []) j d) above.stands there in
+    let narrows = list_all_at (port_narrows m above.decl) above.decl.ports (declared_narrows m is t above.decl above.stands).1 j d declared in
+    let above_it : inherited ports_of m above.decl d.name ≡ Some e.what =
+    ap (λ o. option_map (λ e. e.what) (option_and_then (λ t. find (λ e. same_text e.name d.name) (ports_of m.types t)) o)) above.parent
+    ∙ ap (option_map (λ e. e.what)) found in
+    let within : IsTrue (same_kind d.kind e.what.kind && nat_le e.what.low d.low && nat_le d.high e.what.high && is_a m d.target e.what.target) =
+    sym (ap (λ o. option_map_or (λ q. same_kind d.kind q.kind && nat_le q.low d.low && nat_le d.high q.high && is_a m d.target q.target) o true) above_it)
+    ∙ (and_parts _ _ narrows).1 in
+    let three = and_parts _ _ within in
+    let two = and_parts _ _ three.0 in
+    let one = and_parts _ _ two.0 in
+    record {
+      same_id = refl;
+      low = leb-true _ _ one.1;
+      high = leb-true _ _ two.1;
+      target = λ u under. is_a-trans m is.taxonomy.forest u d.target e.what.target under three.1;
+    })
+
+-- A type under another has each attribute of that one, narrowed.
+pub attributes_narrow : (m : Model) → IsDeclared m → (t u : ℕ) → IsTrue (is_a m t u) → HasEach IsAttributeWithin (attributes_at m u) (attributes_at m t)
+attributes_narrow m is t u under =
+    let forest = is.taxonomy.forest in
+    along_lines m.types (no_cycle m forest) (λ t. IsTrue (is_a m t u) → HasEach IsAttributeWithin (attributes_at m u) (attributes_at m t)) (λ t each under.
+    elim (is_a-cases m forest t u under) [
+      | inl same ↦ λ k a there. (a, subst (λ v. IsAt (attributes_at m v) k a) (sym same) there, attribute_within-refl a)
+      | inr more ↦ has_each-trans IsAttributeWithin attribute_within-trans (attributes_at m u) (attributes_at m more.0) (attributes_at m t)
+          (each more.0 more.1 more.2) (attributes_kept m is t more.0 more.1)
+    ]) t under
+
+-- A type under another has each port of that one, narrowed.
+pub ports_narrow : (m : Model) → IsDeclared m → (t u : ℕ) → IsTrue (is_a m t u) → HasEach (IsPortWithin m) (ports_at m u) (ports_at m t)
+ports_narrow m is t u under =
+    let forest = is.taxonomy.forest in
+    along_lines m.types (no_cycle m forest) (λ t. IsTrue (is_a m t u) → HasEach (IsPortWithin m) (ports_at m u) (ports_at m t)) (λ t each under.
+    elim (is_a-cases m forest t u under) [
+      | inl same ↦ λ k p there. (p, subst (λ v. IsAt (ports_at m v) k p) (sym same) there, port_within-refl m p)
+      | inr more ↦ has_each-trans (IsPortWithin m) (port_within-trans m) (ports_at m u) (ports_at m more.0) (ports_at m t)
+          (each more.0 more.1 more.2) (ports_kept m is t more.0 more.1)
+    ]) t under

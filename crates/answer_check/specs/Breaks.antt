@@ -1,0 +1,79 @@
+-- The tests that a configuration may break, and the first of them.
+use Rattle.std.specs.Prelude.{◌≡◌, ℕ, ℤ, ◌<◌, ◌≤◌, ◌==◌, IsTrue, IsFalse, List, [], ◌∷◌, length, slice_get, Contains, Some, count_by, if◌then◌else◌}
+use Rattle.std.specs.Ordering.{nat_cmp, is_lt}
+use Rattle.std.specs.Cmp.Lexicographic.{slice_cmp}
+use Rattle.prod_model.specs.declared.model.Model.{Model}
+use Rattle.prod_model.specs.declared.model.AttrAt.{AttrAt}
+use Rattle.prod_model.specs.declared.model.PortAt.{PortAt}
+use Rattle.prod_model.specs.declared.model.CountBound.{CountBound}
+use Rattle.prod_model.specs.declared.model.Rule.{Rule}
+use Rattle.prod_model.specs.First.{IsFirst}
+use Rattle.prod_model.specs.Limits.{is_between}
+use Rattle.prod_model.specs.Taxonomy.{attributes_at, ports_at}
+use Rattle.config_value.specs.declared.configuration.Instance.{Instance}
+use Rattle.config_value.specs.Value.{under, is_under, is_true_at}
+use Rattle.config_value.specs.Shaped.{has_value, part_links}
+use Rattle.config_value.specs.Numbered.{is_in_turn}
+use Rattle.answer_check.specs.declared.verdict.Verdict.{Verdict}
+use Rattle.answer_check.specs.declared.verdict.Verdict.TheVariants.{Satisfied, Broken}
+
+-- a broken test: its number, the instance, and the item there
+pub record Break : Type 0 where
+  pub code : ℕ
+  pub instance : ℕ
+  pub item : ℕ
+
+-- that place of the list has this
+abbrev pub Has : {A : Type 0} → List A → ℕ → A → Type 0
+Has xs k x = slice_get xs k ≡ Some x
+
+-- the instance that breaks a test has this port at the item's place, with these links
+pub record HasPort (m : Model) (c : List Instance) (b : Break) (p : PortAt) (links : List ℕ) : Type 0 where
+  pub x : Instance
+  pub stands : Has c b.instance x
+  pub port : Has (ports_at m x.kind) b.item p
+  pub links_there : Has x.links b.item links
+
+-- how many part links may lead to an instance
+abbrev pub most_part_links : ℕ → ℕ
+most_part_links j = if j == 0 then 0 else 1
+
+-- Which test is broken at which instance, and at which item there.
+pub data Breaks (m : Model) (c : List Instance) (b : Break) : Type 0 where
+  -- there are more instances than the model allows
+  too_many : b.code ≡ 1 → b.instance ≡ m.instances → b.item ≡ 0 → m.instances < length c → Breaks m c b
+  -- instance 0 is not under the root type
+  other_root : b.code ≡ 2 → b.instance ≡ 0 → b.item ≡ 0 → IsFalse (is_under m c m.root 0) → Breaks m c b
+  -- a value is not in its domain
+  bad_value : b.code ≡ 3 → (x : Instance) (a : AttrAt) (v : ℤ) → Has c b.instance x → Has (attributes_at m x.kind) b.item a → Has x.values b.item v
+      → IsFalse (has_value m a v) → Breaks m c b
+  -- a link leads to no instance
+  no_instance : b.code ≡ 4 → (p : PortAt) (links : List ℕ) (j : ℕ) → HasPort m c b p links → Contains links j → length c ≤ j → Breaks m c b
+  -- a link leads to an instance that is not under the target
+  off_target : b.code ≡ 5 → (p : PortAt) (links : List ℕ) (j : ℕ) (y : Instance) → HasPort m c b p links → Contains links j → Has c j y
+      → IsFalse (under m p.target y) → Breaks m c b
+  -- the number of links is outside the port's pair
+  bad_number : b.code ≡ 6 → (p : PortAt) (links : List ℕ) → HasPort m c b p links → IsFalse (is_between p.low p.high (length links)) → Breaks m c b
+  -- two or more part links lead to an instance, or one to instance 0
+  shared_part : b.code ≡ 7 → b.item ≡ 0 → b.instance < length c
+      → most_part_links b.instance < count_by (λ j. j == b.instance) (part_links m c) → Breaks m c b
+  -- an instance from 1 on is not in turn
+  misnumbered : b.code ≡ 8 → b.item ≡ 0 → 1 ≤ b.instance → b.instance < length c → IsFalse (is_in_turn c b.instance) → Breaks m c b
+  -- a count of instances is outside its bound
+  bad_count : b.code ≡ 9 → b.instance ≡ 0 → (n : CountBound) → Has m.bounds b.item n
+      → IsFalse (is_between n.low n.high (count_by (under m n.kind) c)) → Breaks m c b
+  -- a rule is false at an instance under its type
+  false_rule : b.code ≡ 10 → (x : Instance) (r : Rule) → Has c b.instance x → Has m.rules b.item r → IsTrue (under m r.kind x)
+      → IsFalse (is_true_at m c b.instance r.holds) → Breaks m c b
+
+-- by code, then by instance, then by item
+abbrev pub IsBreakBefore : Break → Break → Type 0
+IsBreakBefore b d = IsTrue (is_lt (slice_cmp nat_cmp (b.code ∷ b.instance ∷ b.item ∷ []) (d.code ∷ d.instance ∷ d.item ∷ [])))
+
+abbrev pub IsFirstBreak : Model → List Instance → Break → Type 0
+IsFirstBreak m c = IsFirst (Breaks m c) IsBreakBefore
+
+-- what a verdict says: which test is broken first
+abbrev pub Tells : Model → List Instance → Verdict → Type 0
+Tells m c Satisfied = Unit {0}
+Tells m c (Broken code instance item) = IsFirstBreak m c (record { code = code; instance = instance; item = item })

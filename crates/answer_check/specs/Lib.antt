@@ -1,0 +1,9 @@
+pub mod Breaks
+pub mod Finds
+pub mod PortTests
+pub mod Seen
+pub mod Turns
+pub mod Faultless
+pub mod Evaluable
+pub mod Requested
+pub mod Racks

@@ -1,0 +1,26 @@
+-- The tests of a port's links that a configuration may break.
+use Rattle.std.specs.Prelude.{ℕ, Bool, false, not, nat_le, List, length}
+use Rattle.std.specs.List.{list_any}
+use Rattle.prod_model.specs.declared.model.Model.{Model}
+use Rattle.prod_model.specs.declared.model.PortAt.{PortAt}
+use Rattle.prod_model.specs.Limits.{is_between}
+use Rattle.config_value.specs.declared.configuration.Instance.{Instance}
+use Rattle.config_value.specs.Value.{under, at_instance}
+use Rattle.answer_check.specs.declared.links.PortTest.{PortTest}
+use Rattle.answer_check.specs.declared.links.PortTest.TheVariants.{Leads, OnTarget, Number}
+
+-- the number of the test
+abbrev pub code_of : PortTest → ℕ
+code_of Leads = 4
+code_of OnTarget = 5
+code_of Number = 6
+
+-- there is an instance of that number, and it is not under the type
+abbrev pub is_off : Model → List Instance → ℕ → ℕ → Bool
+is_off m c t j = at_instance c (λ y. not (under m t y)) false j
+
+-- the links of a port break the test
+abbrev pub breaks_port : Model → List Instance → PortTest → PortAt → List ℕ → Bool
+breaks_port m c Leads p links = list_any (λ j. nat_le (length c) j) links
+breaks_port m c OnTarget p links = list_any (is_off m c p.target) links
+breaks_port m c Number p links = not (is_between p.low p.high (length links))

@@ -1,0 +1,27 @@
+//! Checks a configuration against a model, and tells values of expressions. Nothing here takes memory.
+#![tactic(auto)]
+
+mod evaluate;
+mod first_words;
+mod in_order;
+mod instances;
+pub mod laws;
+mod links;
+mod masks;
+mod parts;
+mod place;
+mod rules;
+mod sizes;
+mod sums;
+#[cfg(test)]
+mod tests;
+mod turns;
+mod types;
+mod values;
+mod verdict;
+
+pub use config_value::Found;
+pub use evaluate::value_at;
+pub use in_order::check;
+pub use rules::meets;
+pub use verdict::Verdict;
