@@ -1,0 +1,14 @@
+pub mod KeepsFirstLaws
+pub mod ValuesOrderLaws
+pub mod OfferLaws
+pub mod WalkLaws
+pub mod SideLaws
+pub mod OneType
+pub mod OneTypeAttributes
+pub mod AloneLaws
+pub mod RankAloneLaws
+pub mod PreferredLaws
+pub mod CommandLaws
+pub mod OutcomeLaws
+pub mod RunLaws
+pub mod OrderLaws

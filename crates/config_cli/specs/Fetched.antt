@@ -1,0 +1,28 @@
+-- What a read that stops at the limit shows of a file.
+use Rattle.std.specs.Prelude.{◌≡◌, ℕ, ◌<◌, List, [], length}
+use Rattle.model_reader.specs.Files.{most_bytes}
+use Rattle.model_reader.specs.declared.fault.Refusal.{Refusal}
+use Rattle.model_reader.specs.declared.fault.Refusal.TheVariants.{Fault, Memory}
+use Rattle.config_cli.specs.Texts.{refused_text}
+use Rattle.config_cli.specs.declared.outcome.Fetched.{Fetched}
+use Rattle.config_cli.specs.declared.outcome.Fetched.TheVariants.{Bytes, TooLong}
+
+-- the bytes that were read are the file's; or it has more than a file may have
+abbrev pub IsFetchOf : List ℕ → Fetched → Type 0
+IsFetchOf file (Bytes v) = v.items ≡ file
+IsFetchOf file TooLong = most_bytes < length file
+
+-- the refusal of a file that is too long
+abbrev pub IsTooLong : Refusal → Type 0
+IsTooLong (Fault f) = (f.code ≡ 1) × (f.place ≡ [])
+IsTooLong (Memory e) = ⊥
+
+-- the number of a fault has at most two digits
+abbrev pub HasTwoDigits : Refusal → Type 0
+HasTwoDigits (Fault f) = f.code < 100
+HasTwoDigits (Memory e) = Unit {0}
+
+-- the status and the line for a fault
+abbrev pub Refuses : List ℕ → Refusal → ℕ → List ℕ → Type 0
+Refuses file (Fault f) status text = (status ≡ 3) × (text ≡ refused_text file f.code)
+Refuses file (Memory e) status text = ⊥

@@ -1,0 +1,9 @@
+pub mod Sides
+pub mod Best
+pub mod Walk
+pub mod Commands
+pub mod PlainOrder
+pub mod Texts
+pub mod Results
+pub mod Fetched
+pub mod Runs

@@ -1,0 +1,44 @@
+-- What words and files result in: a status from 0 to 3, and a text.
+use Rattle.std.specs.Prelude.{◌≡◌, ℕ, ◌+◌, Bool, true, false, List, [], ◌∷◌, Some, codes}
+use Rattle.prod_model.specs.declared.model.Model.{Model}
+use Rattle.prod_model.specs.declared.model.Order.{Order}
+use Rattle.config_value.specs.declared.configuration.Instance.{Instance}
+use Rattle.config_value.specs.Satisfies.{all_kept}
+use Rattle.config_value.specs.Preferred.{IsPreferred}
+use Rattle.config_value.specs.Conflict.{IsPreferredConflict}
+use Rattle.model_reader.specs.Files.{IsFileOf, IsFaultOf}
+use Rattle.model_reader.specs.PlainFile.{plain_model}
+use Rattle.canonical_form.specs.AnswerText.{answer_text}
+use Rattle.canonical_form.specs.ConflictText.{conflict_text}
+use Rattle.cfg_io.specs.Shelves.{file}
+use Rattle.config_cli.specs.Commands.{Configure, Asks, AsksNothing}
+use Rattle.config_cli.specs.PlainOrder.{plain_order, attributes_declared}
+use Rattle.config_cli.specs.Texts.{usage_text, refused_text}
+
+-- the places of the requests that a set keeps, from a first place on
+abbrev pub places_kept : ℕ → List Bool → List ℕ
+places_kept from [] = []
+places_kept from (true ∷ keep) = from ∷ places_kept (from + 1) keep
+places_kept from (false ∷ keep) = places_kept (from + 1) keep
+
+-- the configuration that is preferred for all requests; or, where there is none, the preferred conflict
+pub data IsBest (m : Model) (o : Order) (status : ℕ) (text : List ℕ) : Type 0 where
+  preferred : (c : List Instance) → IsPreferred m o (all_kept o) c → status ≡ 0 → text ≡ answer_text m c → IsBest m o status text
+  conflict : (keep : List Bool) → IsPreferredConflict m o keep → status ≡ 1 → text ≡ conflict_text o (places_kept 0 keep) → IsBest m o status text
+
+-- What the bytes of a model and an order result in: the fault of the model, else that of the order, else what is best.
+pub data IsConfigured (model order : List ℕ) (status : ℕ) (text : List ℕ) : Type 0 where
+  refused_model : (code : ℕ) → IsFaultOf plain_model model code
+      → status ≡ 3 → text ≡ refused_text (codes "model") code → IsConfigured model order status text
+  refused_order : (m : Model) → IsFileOf plain_model model m
+      → (code : ℕ) → IsFaultOf (plain_order (attributes_declared m)) order code
+      → status ≡ 3 → text ≡ refused_text (codes "order") code → IsConfigured model order status text
+  best : (m : Model) → IsFileOf plain_model model m → (o : Order) → IsFileOf (plain_order (attributes_declared m)) order o
+      → IsBest m o status text → IsConfigured model order status text
+
+-- What words and named files result in. Nothing where a file that they ask for isn't there.
+pub data IsResult (words : List (List ℕ)) (files : List (List ℕ × List ℕ)) (status : ℕ) (text : List ℕ) : Type 0 where
+  refused_words : AsksNothing words → status ≡ 2 → text ≡ usage_text → IsResult words files status text
+  configured : (model order : List ℕ) → Asks words (Configure model order)
+      → (model_bytes order_bytes : List ℕ) → file model files ≡ Some model_bytes → file order files ≡ Some order_bytes
+      → IsConfigured model_bytes order_bytes status text → IsResult words files status text

@@ -1,0 +1,104 @@
+//! What is read of files of orders written out, and which fault others have.
+use super::read_order;
+use model_reader::{Refusal, read_model};
+use prod_model::{Criterion, Expr};
+use std::alloc::Global;
+use std::test::Fail;
+
+const VAN: &str =
+    r#"{"format": "product-model 1", "root": "Van", "instances": 1, "types": [{"name": "Van",
+    "attributes": [{"name": "seats", "range": [1, 9]}, {"name": "load", "range": [0, 1500]}]}]}"#;
+
+/// The fault of an order, and 0 where it is read.
+fn fault_of(alloc: Global, bytes: &[u8]) -> Result<u32, Refusal> {
+    let problem = read_model(alloc, VAN.as_bytes())?;
+    match read_order(alloc, &problem, bytes) {
+        Ok(_) => Ok(0),
+        Err(Refusal::Fault(fault)) => Ok(fault.code),
+        Err(Refusal::Memory(e)) => Err(Refusal::Memory(e)),
+    }
+}
+
+/// Whether it is maximised, and the attribute's id or the number.
+fn aim(criterion: &Criterion) -> Result<(bool, i64), &'static str> {
+    match &criterion.value {
+        Expr::Attr(id) => Ok((criterion.maximise, i64::from(*id))),
+        Expr::Num(n) => Ok((criterion.maximise, *n)),
+        _ => Err("another expression"),
+    }
+}
+
+#[test]
+fn reads_a_plain_order(rt: HostRuntime) -> Result<(), Fail> {
+    let text = r#"{"format": "order 1", "criteria": [
+        {"name": "heavy", "maximise": ["attr", "load"]}, {"name": "few", "minimise": ["attr", "seats"]}, {"name": "seven", "minimise": 7}
+    ]}"#;
+    let problem = read_model(rt.alloc(), VAN.as_bytes())?;
+    let order = read_order(rt.alloc(), &problem, text.as_bytes())?;
+    assert!(rt; order.requests.is_empty());
+    let criteria = order.criteria.as_slice();
+    assert_eq!(rt; criteria.len(), 3);
+    assert_eq!(rt; criteria[0].name.bytes(), b"heavy".as_slice());
+    assert_eq!(rt; aim(&criteria[0])?, (true, 1));
+    assert_eq!(rt; aim(&criteria[1])?, (false, 0));
+    assert_eq!(rt; aim(&criteria[2])?, (false, 7));
+    Ok(())
+}
+
+#[test]
+fn reads_orders(rt: HostRuntime) -> Result<(), Fail> {
+    let cases = [
+        (r#"{"format": "order 1"}"#, 0),
+        (
+            r#"{"format": "order 1", "requests": [], "criteria": []}"#,
+            0,
+        ),
+        (r#"{"format": "order 1""#, 2),
+        ("[]", 90),
+        (r#"{"format": "order 2"}"#, 90),
+        (r#"{"format": "order 1", "model": "Van"}"#, 90),
+        (
+            r#"{"format": "order 1", "requests": [{"name": "r", "holds": ["<", 1, 2]}]}"#,
+            90,
+        ),
+        (r#"{"format": "order 1", "criteria": [{"name": "c"}]}"#, 90),
+        (
+            r#"{"format": "order 1", "criteria": [{"name": "c", "minimise": 1, "maximise": 1}]}"#,
+            90,
+        ),
+        (
+            r#"{"format": "order 1", "criteria": [{"name": "c", "minimise": 1.0}]}"#,
+            90,
+        ),
+        (
+            r#"{"format": "order 1", "criteria": [{"name": "c", "minimise": ["attr", "width"]}]}"#,
+            90,
+        ),
+        (
+            r#"{"format": "order 1", "criteria": [{"name": "c", "minimise": 1}, {"name": "c", "minimise": 2}]}"#,
+            90,
+        ),
+    ];
+    for (text, code) in cases {
+        assert_eq!(rt; fault_of(rt.alloc(), text.as_bytes())?, code, "in {text}");
+    }
+    Ok(())
+}
+
+#[test]
+fn counts_criteria(rt: HostRuntime) -> Result<(), Fail> {
+    for (count, code) in [(8, 0), (9, 90)] {
+        let mut text =
+            "{\"format\": \"order 1\", \"criteria\": [{\"name\": \"c\", \"minimise\": 0}".to_string(
+                rt.alloc(),
+            )?;
+        for n in 1..count {
+            text.push_str(format!(in rt.alloc();
+                ", {{\"name\": \"c{n}\", \"minimise\": {n}}}"
+            )?.as_str())?;
+        }
+        text.push_str("]}")?;
+        assert_eq!(rt; fault_of(rt.alloc(), text.as_bytes())?, code, "at {count}");
+    }
+    Ok(())
+}

@@ -1,0 +1,228 @@
+//! Runs over files and a sink in memory.
+use super::run_alone;
+use cfg_io::{MemoryShelf, MemorySink};
+use std::alloc::{AllocError, Global};
+use std::test::Fail;
+
+const BOX: &str =
+    "{\"format\":\"product-model 1\",\"root\":\"Box\",\"instances\":1,\"types\":[{\"name\":\"Box\"}]}";
+
+const CUT_SHORT: &str = "{\"format\":\"product-model 1\",\"root\":";
+
+const NO_CRITERIA: &str = "{\"format\":\"order 1\"}";
+
+const USAGE: &str =
+    "usage: config_cli configure MODEL ORDER [--workers W] | check MODEL ORDER ANSWER | demo N [--workers W]\n";
+
+/// A run of `configure model order`, and what it leaves.
+#[derive(Clone, Copy)]
+struct Row {
+    shows: &'static str,
+    model: &'static str,
+    order: &'static str,
+    /// The call of the shelf that fails.
+    failing_read: Option<u32>,
+    /// The call of the sink that fails, and how many bytes it lets out.
+    failing_write: Option<(u32, u32)>,
+    status: u8,
+    written: &'static str,
+}
+
+/// What a run left.
+#[derive(Drop)]
+struct Left {
+    status: u8,
+    written: Vec<u8>,
+}
+
+fn words_of(alloc: Global, line: &str) -> Result<Vec<String>, AllocError> {
+    let mut words = Vec::new(alloc);
+    for word in line.split_whitespace() {
+        words.push(String::from_str(alloc, word)?)?;
+    }
+    Ok(words)
+}
+
+fn file_of(alloc: Global, name: &str, text: &str) -> Result<(String, Vec<u8>), AllocError> {
+    Ok((
+        String::from_str(alloc, name)?,
+        Vec::from_slice(alloc, text.as_bytes())?,
+    ))
+}
+
+fn left_by(alloc: Global, line: &str, row: &Row) -> Result<Left, AllocError> {
+    let words = words_of(alloc, line)?;
+    let mut files = Vec::new(alloc);
+    files.push(file_of(alloc, "model", row.model)?)?;
+    files.push(file_of(alloc, "order", row.order)?)?;
+    let mut failing_reads = Vec::new(alloc);
+    if let Some(call) = row.failing_read {
+        failing_reads.push(call)?;
+    }
+    let mut failing_writes = Vec::new(alloc);
+    if let Some(stop) = row.failing_write {
+        failing_writes.push(stop)?;
+    }
+    let mut shelf = MemoryShelf::new(alloc, files, failing_reads);
+    let mut out = MemorySink::new(alloc, failing_writes);
+    let status = run_alone(alloc, &words, &mut shelf, &mut out);
+    let written = Vec::from_slice(alloc, out.written())?;
+    Ok(Left { status, written })
+}
+
+#[test]
+fn leaves_what_the_files_result_in(rt: HostRuntime) -> Result<(), Fail> {
+    let rows = [
+        Row {
+            shows: "a product of one type without attributes is its root alone",
+            model: BOX,
+            order: NO_CRITERIA,
+            failing_read: None,
+            failing_write: None,
+            status: 0,
+            written: "preferred\n0 Box\n",
+        },
+        Row {
+            shows: "a model that breaks off is refused",
+            model: CUT_SHORT,
+            order: NO_CRITERIA,
+            failing_read: None,
+            failing_write: None,
+            status: 3,
+            written: "refused model F02 /\n",
+        },
+        Row {
+            shows: "an order with another format is refused",
+            model: BOX,
+            order: "{\"format\":\"order 2\"}",
+            failing_read: None,
+            failing_write: None,
+            status: 3,
+            written: "refused order F90 /\n",
+        },
+        Row {
+            shows: "a rule that never holds leaves the empty conflict",
+            model: "{\"format\":\"product-model 1\",\"root\":\"Box\",\"instances\":1,\"types\":[{\"name\":\"Box\",\"attributes\":[{\"name\":\"width\",\"range\":[1,3]}]}],\"rules\":[{\"name\":\"big\",\"type\":\"Box\",\"holds\":[\">\",[\"attr\",\"width\"],3]}]}",
+            order: NO_CRITERIA,
+            failing_read: None,
+            failing_write: None,
+            status: 1,
+            written: "conflict 0\n",
+        },
+        Row {
+            shows: "a maximised criterion takes the greatest value",
+            model: "{\"format\":\"product-model 1\",\"root\":\"Box\",\"instances\":1,\"types\":[{\"name\":\"Box\",\"attributes\":[{\"name\":\"width\",\"range\":[1,3]}]}]}",
+            order: "{\"format\":\"order 1\",\"criteria\":[{\"name\":\"w\",\"maximise\":[\"attr\",\"width\"]}]}",
+            failing_read: None,
+            failing_write: None,
+            status: 0,
+            written: "preferred\n0 Box width=3\n",
+        },
+        Row {
+            shows: "the first read fails",
+            model: BOX,
+            order: NO_CRITERIA,
+            failing_read: Some(0),
+            failing_write: None,
+            status: 4,
+            written: "",
+        },
+        Row {
+            shows: "the second read fails",
+            model: BOX,
+            order: NO_CRITERIA,
+            failing_read: Some(1),
+            failing_write: None,
+            status: 4,
+            written: "",
+        },
+        Row {
+            shows: "reads come before faults",
+            model: CUT_SHORT,
+            order: NO_CRITERIA,
+            failing_read: Some(1),
+            failing_write: None,
+            status: 4,
+            written: "",
+        },
+        Row {
+            shows: "the write fails after the header",
+            model: BOX,
+            order: NO_CRITERIA,
+            failing_read: None,
+            failing_write: Some((0, 10)),
+            status: 5,
+            written: "preferred\n",
+        },
+        Row {
+            shows: "the write fails at once",
+            model: BOX,
+            order: NO_CRITERIA,
+            failing_read: None,
+            failing_write: Some((0, 0)),
+            status: 5,
+            written: "",
+        },
+        Row {
+            shows: "the write fails after a byte",
+            model: BOX,
+            order: NO_CRITERIA,
+            failing_read: None,
+            failing_write: Some((0, 1)),
+            status: 5,
+            written: "p",
+        },
+        Row {
+            shows: "the write fails after the whole text",
+            model: BOX,
+            order: NO_CRITERIA,
+            failing_read: None,
+            failing_write: Some((0, 16)),
+            status: 5,
+            written: "preferred\n0 Box\n",
+        },
+    ];
+    for row in &rows {
+        let left = left_by(rt.alloc(), "configure model order", row)?;
+        assert_eq!(rt; left.status, row.status, "{}", row.shows);
+        assert_eq!(rt;
+            left.written.as_slice(),
+            row.written.as_bytes(),
+            "{}",
+            row.shows
+        );
+    }
+    Ok(())
+}
+
+#[test]
+fn takes_no_other_words(rt: HostRuntime) -> Result<(), Fail> {
+    let row = Row {
+        shows: "other words give the usage line",
+        model: BOX,
+        order: NO_CRITERIA,
+        failing_read: None,
+        failing_write: None,
+        status: 2,
+        written: USAGE,
+    };
+    let others = [
+        "",
+        "configure",
+        "configure model",
+        "build model order",
+        "configure model order order",
+        "configure model order --workers 04",
+    ];
+    for line in others {
+        let left = left_by(rt.alloc(), line, &row)?;
+        assert_eq!(rt; left.status, row.status, "{line}");
+        assert_eq!(rt;
+            left.written.as_slice(),
+            row.written.as_bytes(),
+            "{}",
+            row.shows
+        );
+    }
+    Ok(())
+}
