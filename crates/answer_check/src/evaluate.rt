@@ -8,7 +8,7 @@ ghost use Rattle.config_value.specs.Value.{value_at as value_at_of, number_at as
 ghost use Rattle.answer_check.specs.Evaluable.{form_value, IsEvaluable, EachHasBounds, HasBoundsAtEach};
 ghost use Rattle.answer_check.specs.Faultless.{HasBoundsAt, IsFaultlessAt};
 
-use crate::instances::{is_instance_under, links_at_instance, value_at_instance};
+use crate::instances::{is_instance_under, links_at, value_at_instance};
 use crate::sums::{count_links, number_under, sum_links, sum_under};
 use config_value::{Configuration, Found};
 use prod_model::{Boxed, Expr, Problem, Relation};
@@ -48,14 +48,15 @@ fn form_at(problem: &Problem, c: &Configuration, i: u32, e: &Expr) -> Found
     match e {
         Expr::Num(n) => Found::Number(*n),
         Expr::Attr(a) => Found::Number(value_at_instance(problem, c, *a, i)),
-        Expr::Count(p) => Found::Number(links_at_instance(problem, c, *p, i).len() as i64),
-        Expr::CountOf(p, kind) => {
-            let links = links_at_instance(problem, c, *p, i);
-            Found::Number(count_links(problem, c, links, *kind))
-        }
+        Expr::Count(p) => Found::Number(links_at(problem, c, *p, i).len() as i64),
+        Expr::CountOf(p, t) => Found::Number(count_links(
+            problem,
+            c,
+            links_at(problem, c, *p, i),
+            *t,
+        )),
         Expr::Sum(p, a) => {
-            let links = links_at_instance(problem, c, *p, i);
-            Found::Number(sum_links(problem, c, links, *a) as i64)
+            Found::Number(sum_links(problem, c, links_at(problem, c, *p, i), *a) as i64)
         }
         Expr::Total(kind, a) => Found::Number(sum_under(problem, c, *kind, *a) as i64),
         Expr::Number(kind) => Found::Number(number_under(problem, c, *kind)),
@@ -73,12 +74,8 @@ fn form_at(problem: &Problem, c: &Configuration, i: u32, e: &Expr) -> Found
         Expr::Or(args) => Found::Truth(any_true(problem, c, i, args.as_slice())),
         Expr::Not(a) => Found::Truth(!truth_at(problem, c, i, a)),
         Expr::If(a, b) => Found::Truth(!truth_at(problem, c, i, a) || truth_at(problem, c, i, b)),
-        Expr::All(p, a) => {
-            Found::Truth(true_at_all(problem, c, links_at_instance(problem, c, *p, i), a))
-        }
-        Expr::Any(p, a) => {
-            Found::Truth(true_at_any(problem, c, links_at_instance(problem, c, *p, i), a))
-        }
+        Expr::All(p, a) => Found::Truth(true_at_all(problem, c, links_at(problem, c, *p, i), a)),
+        Expr::Any(p, a) => Found::Truth(true_at_any(problem, c, links_at(problem, c, *p, i), a)),
     }
 }
 

@@ -88,12 +88,7 @@ pub(crate) fn value_at_instance(problem: &Problem, c: &Configuration, id: u32, i
 }
 
 /// The links of a port at the instance of a number, and none where there is no such instance.
-pub(crate) fn links_at_instance<'a>(
-    problem: &Problem,
-    c: &'a Configuration,
-    id: u32,
-    i: u32,
-) -> &'a [u32]
+pub(crate) fn links_at<'a>(problem: &Problem, c: &'a Configuration, id: u32, i: u32) -> &'a [u32]
     ensures { result.now ≡ links_at_instance_of problem.now c.now id i }
 {
     if (i as usize) < c.len() {
