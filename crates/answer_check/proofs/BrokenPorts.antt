@@ -17,7 +17,8 @@ use Rattle.answer_check.specs.Finds.{BreaksAt, FindsItem}
 use Rattle.answer_check.specs.PortTests.{code_of, is_off, breaks_port}
 use Rattle.answer_check.proofs.Items.{Passes, finds-position, finds-same}
 use Rattle.answer_check.proofs.FewItems.{few_ports}
-use Rattle.answer_check.proofs.ZippedLists.{slice_get-zip, zip-first, zip-second}
+use Rattle.prod_model.proofs.ListLaws.{slice_get-zip}
+use Rattle.answer_check.proofs.ZippedLists.{zip-first, zip-second}
 
 not-true : (b : Bool) → not b ≡ true → b ≡ false
 not-true b h = grind arith

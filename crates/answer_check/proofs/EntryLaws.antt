@@ -1,25 +1,20 @@
 -- The entries of a type: from its parent's, and no name twice among them.
-use Rattle.std.proofs.Common.{◌≡◌, ℕ, ◌+◌, Bool, true, false, not, ◌||◌, List, [], ◌∷◌, ◌++◌, map, reverse, drop, Option, Some, None, refl, sym, ap, ◌∙◌, subst, arith}
+use Rattle.std.proofs.Common.{◌≡◌, ℕ, Bool, true, false, not, ◌||◌, List, [], ◌∷◌, ◌++◌, map, drop, refl, sym, ap, ◌∙◌, subst, arith}
 use Rattle.std.specs.Prelude.{IsTrue}
-use Rattle.std.specs.Option.{option_map_or}
-use Rattle.std.specs.List.{list_any, list_all, filter, find, flat_map, fold}
+use Rattle.std.specs.List.{list_any, list_all, filter, flat_map}
 use Rattle.std.proofs.lemmas.Bool.{false≢true, and_parts, and_from, or_left}
-use Rattle.std.proofs.lemmas.List.{map-append, reverse-append}
 use Rattle.std.proofs.lemmas.List.Folds.{list_any-append, list_all-append}
-use Rattle.std.proofs.lemmas.List.Sums.{fold-append}
 use lib.Pointwise.{bytes_decides}
 use Rattle.prod_model.specs.declared.model.TypeDecl.{TypeDecl}
 use Rattle.prod_model.specs.Names.{same_text, is_distinct}
 use Rattle.prod_model.specs.Forest.{line}
-use Rattle.prod_model.specs.Taxonomy.{Named, declarations_of, new_declarations, first_id, new_entries, kept_entry, extended_entries, entries_of}
-use Rattle.answer_check.proofs.Forests.{HasNoCycle}
-use Rattle.answer_check.proofs.LineLaws.{HasParent, no_type, alone, below, line-of, line-parent, along_lines}
+use Rattle.prod_model.specs.Taxonomy.{Named, declarations_of, new_declarations, extended_entries, entries_of}
+use Rattle.prod_model.proofs.NameLaws.{same_text-refl}
+use Rattle.prod_model.proofs.ForestLines.{HasNoCycle, HasParent, line-parent}
+use Rattle.prod_model.proofs.EntryLaws as Entries
+use Rattle.answer_check.proofs.LineLaws.{no_type, alone, below, line-of, along_lines}
 
 -- ---- names
-
--- a text is the same as itself
-pub same_text-refl : (n : List ℕ) → IsTrue (same_text n n)
-same_text-refl n = (bytes_decides n n).1 refl
 
 -- texts that pass the test are equal
 pub same_text-same : (n k : List ℕ) → IsTrue (same_text n k) → n ≡ k
@@ -98,40 +93,13 @@ pub record AreNamed {D : Type 0} (declared : TypeDecl → List D) (name_of : D �
   pub distinct : IsTrue (is_distinct ns)
 
 module _ {D A : Type 0} (declared : TypeDecl → List D) (name_of : D → List ℕ) (made : ℕ → D → A) (narrowed : D → A → A) (types : List TypeDecl) where
-  -- new entries have the names of their declarations
-  names_new : (id : ℕ) (ds : List D) → map (λ e. e.name) (new_entries declared name_of made narrowed id ds) ≡ map name_of ds
-  names_new id [] = refl
-  names_new id (d ∷ ds) = ap (λ ns. name_of d ∷ ns) (names_new (id + 1) ds)
-
-  -- an entry keeps its name, narrowed or not
-  name_kept : (e : Named A) (d : Option D) → (option_map_or (λ d. record { name = e.name; what = narrowed d e.what }) d e).name ≡ e.name
-  name_kept e None = refl
-  name_kept e (Some d) = refl
-
-  -- inherited entries keep their names
-  names_kept : (ds : List D) (es : List (Named A)) → map (λ e. e.name) (map (kept_entry declared name_of made narrowed ds) es) ≡ map (λ e. e.name) es
-  names_kept ds [] = refl
-  names_kept ds (e ∷ es) = let here = name_kept e (find (λ d. same_text (name_of d) e.name) ds) in let rest = names_kept ds es in cc
-
-  -- the names that are inherited, and then the new ones
-  names_extended : (es : List (Named A)) (u : ℕ)
-      → map (λ e. e.name) (extended_entries declared name_of made narrowed types es u) ≡ map (λ e. e.name) es ++ map name_of (new_declarations declared name_of types u)
-  names_extended es u =
-      let ds = declarations_of declared name_of types u in
-      let added = new_entries declared name_of made narrowed (first_id declared name_of types u) (new_declarations declared name_of types u) in
-      map-append (λ e. e.name) (map (kept_entry declared name_of made narrowed ds) es) added
-      ∙ ap (λ ns. ns ++ map (λ e. e.name) added) (names_kept ds es)
-      ∙ ap (λ ns. map (λ e. e.name) es ++ ns) (names_new (first_id declared name_of types u) (new_declarations declared name_of types u))
-
   -- what a line gives, from its last type to its first
-  abbrev pub entries_along : List ℕ → List (Named A)
-  entries_along us = fold (extended_entries declared name_of made narrowed types) [] (reverse us)
+  abbrev entries_along : List ℕ → List (Named A)
+  entries_along us = Entries.entries_along declared name_of made narrowed types us
 
   -- a type more in front extends them
-  pub entries_cons : (u : ℕ) (us : List ℕ) → entries_along (u ∷ us) ≡ extended_entries declared name_of made narrowed types (entries_along us) u
-  entries_cons u us =
-      let extend = extended_entries declared name_of made narrowed types in
-      ap (fold extend []) (reverse-append (u ∷ []) us) ∙ fold-append extend [] (reverse us) (u ∷ [])
+  entries_cons : (u : ℕ) (us : List ℕ) → entries_along (u ∷ us) ≡ extended_entries declared name_of made narrowed types (entries_along us) u
+  entries_cons u us = Entries.entries-cons declared name_of made narrowed types u us
 
   -- what a type has is what its parent has, extended
   pub entries_parent : HasNoCycle types → (t p : ℕ) → HasParent types t p
@@ -156,7 +124,8 @@ module _ {D A : Type 0} (declared : TypeDecl → List D) (name_of : D → List �
       let is_new : new_declarations declared name_of types u ≡ new =
       ap (λ l. filter (λ d. not (is_declared declared name_of types (drop 1 l) (name_of d))) ds) is in
       let names : map (λ e. e.name) (entries_along (u ∷ us)) ≡ map (λ e. e.name) (entries_along us) ++ map name_of new =
-      ap (map (λ e. e.name)) (entries_cons u us) ∙ names_extended (entries_along us) u ∙ ap (λ l. map (λ e. e.name) (entries_along us) ++ map name_of l) is_new in
+      ap (map (λ e. e.name)) (entries_cons u us) ∙ Entries.names-extended declared name_of made narrowed types (entries_along us) u
+      ∙ ap (λ l. map (λ e. e.name) (entries_along us) ++ map name_of l) is_new in
       let old = map (λ (e : Named A). e.name) (entries_along us) in
       let all = flat_map (declarations_of declared name_of types) us in
       let named : IsTrue (list_all (is_declared declared name_of types (u ∷ us)) (old ++ map name_of new)) =

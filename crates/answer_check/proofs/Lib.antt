@@ -13,7 +13,6 @@ pub mod SeenParts
 pub mod SharedParts
 pub mod LinkPushed
 pub mod TurnMasks
-mod Forests
 mod ListLaws
 pub mod LineLaws
 mod EntryLaws

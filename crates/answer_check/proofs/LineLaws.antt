@@ -7,13 +7,7 @@ use Rattle.std.proofs.lemmas.Bool.{false≢true, or_cases, or_right}
 use Rattle.prod_model.specs.declared.model.Model.{Model}
 use Rattle.prod_model.specs.declared.model.TypeDecl.{TypeDecl}
 use Rattle.prod_model.specs.Forest.{line_within, line, is_a, is_forest}
-use Rattle.answer_check.proofs.Forests.{HasNoCycle, line-stays, no_cycle}
-
--- the type of that number has that parent
-pub record HasParent (types : List TypeDecl) (t p : ℕ) : Type 0 where
-  pub decl : TypeDecl
-  pub stands : slice_get types t ≡ Some decl
-  pub parent : decl.parent ≡ Some p
+use Rattle.prod_model.proofs.ForestLines.{HasNoCycle, HasParent, line-stays, line-parent, no_cycle}
 
 -- what a type's line is: nothing, the type alone, or the type and then its parent's line
 pub data LineOf (types : List TypeDecl) (t : ℕ) : Type 0 where
@@ -42,20 +36,13 @@ module _ (types : List TypeDecl) where
       by_type None none = no_type (ap from_type none)
       by_type (Some d) stands = by_parent d stands d.parent refl
 
-  -- a type's line goes on with its parent's line
-  pub line-parent : HasNoCycle types → (t p : ℕ) → HasParent types t p → line types t ≡ t ∷ line types p
-  line-parent forest t p above =
-      ap (λ o. option_map_or (λ d. t ∷ option_map_or (line_within (length types) types) d.parent []) o []) above.stands
-      ∙ ap (λ o. t ∷ option_map_or (line_within (length types) types) o []) above.parent
-      ∙ ap (λ us. t ∷ us) (line-stays types forest p)
-
   -- what holds of a type where it holds of the type's parent, holds of each type
   pub along_lines : HasNoCycle types → (P : ℕ → Type 0) → ((t : ℕ) → ((p : ℕ) → HasParent types t p → P p) → P t) → (t : ℕ) → P t
   along_lines forest P step t = within (length (line types t)) t (le_refl _)
     where
       within : (n t : ℕ) → length (line types t) ≤ n → P t
-      within zero t short = step t (λ p above. absurd (omega (arith, ap length (line-parent forest t p above))))
-      within (suc n) t short = step t (λ p above. within n p (omega (arith, ap length (line-parent forest t p above))))
+      within zero t short = step t (λ p above. absurd (omega (arith, ap length (line-parent types forest t p above))))
+      within (suc n) t short = step t (λ p above. within n p (omega (arith, ap length (line-parent types forest t p above))))
 
 -- a type that is under another is it, or its parent is under it
 pub is_a-cases : (m : Model) → IsTrue (is_forest m) → (t u : ℕ) → IsTrue (is_a m t u)

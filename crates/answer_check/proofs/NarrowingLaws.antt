@@ -23,10 +23,11 @@ use Rattle.prod_model.specs.Taxonomy.{Named, declarations_of, kept_entry, entrie
 use Rattle.prod_model.specs.Valid.{IsDeclared, inherited, has_distinct_names, has_narrowings, attribute_narrows, port_narrows, narrows_domain, same_kind}
 use Rattle.config_value.specs.ShapedSentences.{IsAt}
 use Rattle.config_value.proofs.Places.{list_all_at, list_any_from}
-use Rattle.answer_check.proofs.Forests.{HasNoCycle, no_cycle}
-use Rattle.answer_check.proofs.LineLaws.{HasParent, along_lines, is_a-cases, is_a-trans}
+use Rattle.prod_model.proofs.NameLaws.{same_text-refl}
+use Rattle.prod_model.proofs.ForestLines.{HasNoCycle, HasParent, no_cycle}
+use Rattle.answer_check.proofs.LineLaws.{along_lines, is_a-cases, is_a-trans}
 use Rattle.answer_check.proofs.ListLaws.{HasEach, find_at, map_at, at_map, at_front}
-use Rattle.answer_check.proofs.EntryLaws.{same_text-refl, same_text-same, entries_parent, names_distinct}
+use Rattle.answer_check.proofs.EntryLaws.{same_text-same, entries_parent, names_distinct}
 
 -- ---- what a narrowing is
 

@@ -8,7 +8,7 @@ use Rattle.std.proofs.lemmas.Option.{slice_get_past, slice_get_within}
 use Rattle.prod_model.specs.declared.model.Model.{Model}
 use Rattle.prod_model.specs.declared.model.TypeDecl.{TypeDecl}
 use Rattle.prod_model.specs.Forest.{is_a, line_within}
-use Rattle.prod_model.specs.Taxonomy.{attributes_of, ports_of, attributes_at, ports_at}
+pub use Rattle.prod_model.proofs.TaxonomyLaws.{no_attributes, no_ports}
 
 module _ (types : List TypeDecl) (u : ℕ) where
   from_parent : (most : ℕ) → ((t : ℕ) → list_any (λ v. v == u) (line_within most types t) ≡ false)
@@ -34,11 +34,3 @@ pub is_a_outside : (m : Model) (t u : ℕ) → (length m.types ≤ t) ⊎ (lengt
 unfolding is_a
 is_a_outside m t u (inl outside) = rw (slice_get_past m.types t outside) refl
 is_a_outside m t u (inr outside) = not_on_line m.types u (suc (length m.types)) t outside
-
-pub no_attributes : (m : Model) (t : ℕ) → length m.types ≤ t → attributes_at m t ≡ []
-unfolding attributes_of
-no_attributes m t outside = rw (slice_get_past m.types t outside) refl
-
-pub no_ports : (m : Model) (t : ℕ) → length m.types ≤ t → ports_at m t ≡ []
-unfolding ports_of
-no_ports m t outside = rw (slice_get_past m.types t outside) refl

@@ -5,12 +5,6 @@ use Rattle.std.specs.List.{zip}
 use Rattle.std.proofs.lemmas.Option.{same_Some, none-some, slice_get_read}
 
 module _ {X Y : Type 0} where
-  pub slice_get-zip : (xs : List X) (ys : List Y) (k : ℕ) (x : X) (y : Y) → slice_get xs k ≡ Some x → slice_get ys k ≡ Some y → slice_get (zip xs ys) k ≡ Some (x, y)
-  slice_get-zip [] ys k x y at_x at_y = absurd (none-some x at_x)
-  slice_get-zip (v ∷ xs) [] k x y at_x at_y = absurd (none-some y at_y)
-  slice_get-zip (v ∷ xs) (w ∷ ys) zero x y at_x at_y = cc
-  slice_get-zip (v ∷ xs) (w ∷ ys) (suc k) x y at_x at_y = slice_get-zip xs ys k x y at_x at_y
-
   pub zip-first : (xs : List X) (ys : List Y) (k : ℕ) (pair : X × Y) → slice_get (zip xs ys) k ≡ Some pair → slice_get xs k ≡ Some pair.0
   zip-first [] ys k pair at = absurd (none-some pair at)
   zip-first (v ∷ xs) [] k pair at = absurd (none-some pair at)

@@ -10,7 +10,8 @@ use Rattle.prod_model.specs.declared.model.TypeDecl.{TypeDecl}
 use Rattle.prod_model.specs.Names.{same_text, is_distinct}
 use Rattle.prod_model.specs.Forest.{ancestors}
 use Rattle.prod_model.specs.Taxonomy.{declarations_of, new_declarations}
-use Rattle.canonical_form.proofs.Forests.{IsLine}
+use Rattle.prod_model.proofs.NameLaws.{same_text-symm}
+use Rattle.prod_model.proofs.ForestLines.{IsLine}
 use Rattle.canonical_form.specs.FirstDeclared.{with_new, firsts_of}
 
 -- a list passes a test turned round as it does as it stands
@@ -28,9 +29,6 @@ module _ {D : Type 0} (name_of : D → List ℕ) where
   -- one of the declarations has the name of d
   abbrev pub is_named : List D → D → Bool
   is_named ds d = list_any (λ e. same_text (name_of d) (name_of e)) ds
-
-  same_text-swap : (d e : D) → same_text (name_of d) (name_of e) ≡ same_text (name_of e) (name_of d)
-  same_text-swap d e = nat_list_eq_equiv.symm (name_of d) (name_of e)
 
   -- declarations of one name are in the same lists
   is_named-same : (ds : List D) (d e : D) → same_text (name_of d) (name_of e) ≡ true → is_named ds d ≡ is_named ds e
@@ -55,7 +53,7 @@ module _ {D : Type 0} (name_of : D → List ℕ) where
   filter-other firsts d [] other = refl
   filter-other firsts d (x ∷ xs) other =
       let more = list_any-append (λ e. same_text (name_of x) (name_of e)) firsts (d ∷ []) in
-      let swap = same_text-swap d x in
+      let swap = same_text-symm (name_of d) (name_of x) in
       let rest = filter-other firsts d xs in
       grind (arith)
 

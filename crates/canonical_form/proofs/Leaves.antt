@@ -9,49 +9,40 @@ use Rattle.prod_model.specs.declared.model.Model.{Model}
 use Rattle.prod_model.specs.declared.model.TypeDecl.{TypeDecl}
 use Rattle.prod_model.specs.Forest.{line, is_leaf}
 use Rattle.prod_model.specs.Valid.{IsValid, has_known_types}
-use Rattle.canonical_form.proofs.Forests.{HasNoCycle, no_cycle, line-short, line-stays}
+use Rattle.prod_model.proofs.ForestLines.{HasNoCycle, HasParent, no_cycle, line-short, line-parent}
 
 -- a leaf type
 pub record HasLeaf (m : Model) : Type 0 where
   pub kind : ℕ
   pub leaf : IsTrue (is_leaf m kind)
 
--- a type whose parent is t
-record IsChild (types : List TypeDecl) (t child : ℕ) : Type 0 where
-  decl : TypeDecl
-  at : slice_get types child ≡ Some decl
-  parent : decl.parent ≡ Some t
-
 abbrev has_parent : ℕ → TypeDecl → Bool
 has_parent t d = option_map_or (λ p. p == t) d.parent false
 
+-- a type whose parent is t
 record HasChild (types : List TypeDecl) (t : ℕ) : Type 0 where
   child : ℕ
-  is : IsChild types t child
+  is : HasParent types child t
 
 parent_is : (t : ℕ) (o : Option ℕ) → option_map_or (λ p. p == t) o false ≡ true → o ≡ Some t
 parent_is t None has = absurd (false≢true has)
 parent_is t (Some p) has = let e : p ≡ t = grind (arith, nat_tests) in ap Some e
 
 child_later : (d : TypeDecl) (types : List TypeDecl) (t : ℕ) → HasChild types t → HasChild (d ∷ types) t
-child_later d types t has = record { child = suc has.child; is = record { decl = has.is.decl; at = has.is.at; parent = has.is.parent } }
+child_later d types t has = record { child = suc has.child; is = record { decl = has.is.decl; stands = has.is.stands; parent = has.is.parent } }
 
 some_child : (types : List TypeDecl) (t : ℕ) → list_all (λ d. not (has_parent t d)) types ≡ false → HasChild types t
 some_child [] t none = absurd (false≢true (sym none))
 some_child (d ∷ types) t none = by_test (has_parent t d) refl (λ rest. some_child types t rest)
   where
     by_test : (b : Bool) → has_parent t d ≡ b → (list_all (λ e. not (has_parent t e)) types ≡ false → HasChild types t) → HasChild (d ∷ types) t
-    by_test true is later = record { child = zero; is = record { decl = d; at = refl; parent = parent_is t d.parent is } }
+    by_test true is later = record { child = zero; is = record { decl = d; stands = refl; parent = parent_is t d.parent is } }
     by_test false is later = child_later d types t (later (grind (arith)))
 
 child_within : (types : List TypeDecl) (k : ℕ) (d : TypeDecl) → slice_get types k ≡ Some d → k < length types
 child_within [] k d at = absurd (cc)
 child_within (e ∷ types) zero d at = omega arith
 child_within (e ∷ types) (suc k) d at = let rest = child_within types k d at in omega arith
-
--- the line of a child is longer by one
-child_line : (types : List TypeDecl) (t child : ℕ) → HasNoCycle types → IsChild types t child → line types child ≡ child ∷ line types t
-child_line types t child forest is = rw (is.at, is.parent) (ap (λ us. child ∷ us) (line-stays types forest t))
 
 is_leaf_with : (m : Model) (t : ℕ) → t < length m.types → list_all (λ d. not (has_parent t d)) m.types ≡ true → IsTrue (is_leaf m t)
 unfolding is_leaf
@@ -66,11 +57,11 @@ leaf_or m t within false none longer = longer (some_child m.types t none)
 leaf_below : (m : Model) → HasNoCycle m.types → (room t : ℕ) → t < length m.types → length m.types ≤ length (line m.types t) + room → HasLeaf m
 leaf_below m forest zero t within long =
     leaf_or m t within (list_all (λ d. not (has_parent t d)) m.types) refl (λ has.
-    let longer = ap length (child_line m.types t has.child forest has.is) in let short = line-short m.types forest has.child in absurd (omega arith))
+    let longer = ap length (line-parent m.types forest has.child t has.is) in let short = line-short m.types forest has.child in absurd (omega arith))
 leaf_below m forest (suc room) t within long =
     leaf_or m t within (list_all (λ d. not (has_parent t d)) m.types) refl (λ has.
-    let longer = ap length (child_line m.types t has.child forest has.is) in
-    leaf_below m forest room has.child (child_within m.types has.child has.is.decl has.is.at) (omega arith))
+    let longer = ap length (line-parent m.types forest has.child t has.is) in
+    leaf_below m forest room has.child (child_within m.types has.child has.is.decl has.is.stands) (omega arith))
 
 root_within : (m : Model) → IsValid m → m.root < length m.types
 unfolding has_known_types

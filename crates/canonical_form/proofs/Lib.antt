@@ -1,6 +1,5 @@
 pub mod Lines
 pub mod SameNames
-pub mod Forests
 pub mod Firsts
 pub mod Entries
 pub mod Places

@@ -1,12 +1,10 @@
 -- What it tells that a list has a place that passes, or none.
 use Rattle.std.proofs.Common.{◌≡◌, ℕ, zero, suc, ◌+◌, ◌<◌, Bool, true, false, not, cond, ◌||◌, List, [], ◌∷◌, map, take, length, Option, Some, None, refl, sym, ap, subst, ◌∙◌, arith}
 use Rattle.std.specs.Prelude.{slice_get, nat_lt}
-use Rattle.std.specs.Borrow.{Bor}
 use Rattle.std.specs.List.{list_any, position, position_or_len}
-use Rattle.std.specs.Cmp.Lexicographic.{nat_list_eq_equiv}
 use Rattle.std.proofs.lemmas.Bool.Decides.{nat_tests}
-use Rattle.std.proofs.lemmas.List.{length-map}
 use Rattle.prod_model.specs.Names.{same_text, is_distinct}
+use Rattle.prod_model.proofs.NameLaws.{same_text-symm}
 
 -- a place of a list, and what stands there and passes
 pub record Hit {X : Type 0} (p : X → Bool) (xs : List X) (k : ℕ) : Type 0 where
@@ -89,22 +87,6 @@ position-miss p (y ∷ ys) none zero x at =
     ap p (sym (same_item y x at)) ∙ first_misses (p y) (position p ys) (sym (position-cons p y ys) ∙ none)
 position-miss p (y ∷ ys) none (suc k) x at = position-miss p ys (others_miss (p y) (position p ys) (sym (position-cons p y ys) ∙ none)) k x at
 
--- ---- through references
-
-position_or_len-map : {A B : Type 0} (f : A → B) (p : B → Bool) (q : A → Bool) → ((x : A) → p (f x) ≡ q x) → (xs : List A) → position_or_len p (map f xs) ≡ position_or_len q xs
-position_or_len-map f p q same [] = refl
-position_or_len-map f p q same (x ∷ xs) = rw (same x, position_or_len-map f p q same xs) refl
-
-position-map : {A B : Type 0} (f : A → B) (p : B → Bool) (q : A → Bool) → ((x : A) → p (f x) ≡ q x) → (xs : List A) → position p (map f xs) ≡ position q xs
-position-map f p q same xs = rw (position_or_len-map f p q same xs, length-map xs f) refl
-
-same_text-swap : (a b : List ℕ) → same_text a b ≡ same_text b a
-same_text-swap = nat_list_eq_equiv.symm
-
--- borrowed names are searched as the names are
-pub position-now : (name : List ℕ) (texts : List (Bor (List ℕ))) → position (λ n. same_text n name) (map (λ t. t.now) texts) ≡ position (λ t. same_text name t.now) texts
-position-now name texts = position-map (λ t. t.now) (λ n. same_text n name) (λ t. same_text name t.now) (λ t. same_text-swap t.now name) texts
-
 -- ---- names that are put in one after another
 
 first_false : (a b : Bool) → (a || b) ≡ false → a ≡ false
@@ -124,10 +106,5 @@ distinct_before name_of (y ∷ ys) zero x distinct at = refl
 distinct_before name_of (y ∷ ys) (suc k) x distinct at =
     let rest = distinct_before name_of ys k x (grind (arith)) at in
     let there = named_at name_of ys k x (name_of y) at in
-    let swap = same_text-swap (name_of x) (name_of y) in
+    let swap = same_text-symm (name_of x) (name_of y) in
     grind (arith)
-
--- one of the borrowed names is the same as one of the names
-pub list_any-now : (name : List ℕ) (texts : List (Bor (List ℕ))) → list_any (same_text name) (map (λ t. t.now) texts) ≡ list_any (λ t. same_text name t.now) texts
-list_any-now name [] = refl
-list_any-now name (t ∷ ts) = ap (λ b. same_text name t.now || b) (list_any-now name ts)

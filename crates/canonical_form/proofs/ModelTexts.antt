@@ -19,10 +19,7 @@ use Rattle.prod_model.specs.Forest.{is_leaf}
 use Rattle.prod_model.specs.Taxonomy.{words_of, declarations_of, new_declarations, all_new_declarations, first_words}
 use Rattle.prod_model.specs.Valid.{IsValid, has_formed_names, has_distinct_names, has_short_lists, has_few_words}
 use Rattle.canonical_form.specs.AnswerText.{type_name, word_at}
-
-pub same_text-refl : (t : List ℕ) → same_text t t ≡ true
-same_text-refl [] = refl
-same_text-refl (b ∷ bs) = let rest = same_text-refl bs in grind (arith, nat_tests)
+use Rattle.prod_model.proofs.NameLaws.{same_text-refl}
 
 pub leaf_is_type : (m : Model) (t : ℕ) → IsTrue (is_leaf m t) → t < length m.types
 unfolding is_leaf

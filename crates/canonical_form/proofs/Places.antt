@@ -1,30 +1,19 @@
 -- The ids of a type's entries are the places of the new declarations along its line.
-use Rattle.std.proofs.Common.{◌≡◌, ℕ, zero, suc, ◌<◌, ◌+◌, ◌-◌, nat_eq, true, List, [], ◌∷◌, ◌++◌, map, length, length-append, reverse, Option, Some, None, refl, sym, ap, ◌∙◌, append_assoc, append-nil, zero-add, arith}
+use Rattle.std.proofs.Common.{◌≡◌, ℕ, suc, ◌<◌, ◌+◌, ◌-◌, nat_eq, true, List, [], ◌∷◌, ◌++◌, map, length, length-append, reverse, Option, Some, None, refl, sym, ap, ◌∙◌, append_assoc, append-nil, arith}
 use Rattle.std.specs.Prelude.{slice_get}
 use Rattle.std.specs.Option.{option_map_or}
 use Rattle.std.specs.List.{list_any, find, flat_map, fold, range_with_len}
 use Rattle.std.proofs.lemmas.List.{map-append}
 use Rattle.std.proofs.lemmas.List.Concat.{length-flat_map}
 use Rattle.std.proofs.lemmas.List.Sorted.{list_any-IsPermutation, IsPermutation-reverse}
-use Rattle.std.proofs.lemmas.Grind.{flat_map-append}
 use Rattle.std.proofs.lemmas.Bool.Decides.{nat_tests}
 use Rattle.prod_model.specs.declared.model.TypeDecl.{TypeDecl}
 use Rattle.prod_model.specs.Names.{same_text}
 use Rattle.prod_model.specs.Forest.{line}
 use Rattle.prod_model.specs.Taxonomy.{Named, declarations_of, new_declarations, all_new_declarations, first_id, new_entries, kept_entry, extended_entries, entries_of}
-use Rattle.canonical_form.proofs.Forests.{line_within-types}
-
--- what stands after as many elements as there are before it
-slice_get-middle : {X : Type 0} (before : List X) (x : X) (rest : List X) → slice_get (before ++ x ∷ rest) (length before) ≡ Some x
-slice_get-middle [] x rest = refl
-slice_get-middle (b ∷ before) x rest = slice_get-middle before x rest
-
-range-split : (a k r : ℕ) → range_with_len a (k + suc r) ≡ range_with_len a k ++ (a + k) ∷ range_with_len (a + k + 1) r
-range-split a zero r = let e : 0 + suc r ≡ suc r = omega arith in let f : a + 0 ≡ a = omega arith in rw (e, f) refl
-range-split a (suc k) r =
-    let e : suc k + suc r ≡ suc (k + suc r) = omega arith in
-    let f : a + suc k ≡ a + 1 + k = omega arith in
-    rw (e, f) (ap (λ ns. a ∷ ns) (range-split (a + 1) k r))
+use Rattle.prod_model.proofs.ListLaws.{slice_get-middle}
+use Rattle.prod_model.proofs.ForestLines.{line_within-types}
+use Rattle.prod_model.proofs.EntryLaws.{all_new-split}
 
 module _ {D A : Type 0} (declared : TypeDecl → List D) (name_of : D → List ℕ) (made : ℕ → D → A) (narrowed : D → A → A) (id_of : A → ℕ)
     (made_id : (id : ℕ) (d : D) → id_of (made id d) ≡ id) (narrowed_id : (d : D) (a : A) → id_of (narrowed d a) ≡ id_of a) where
@@ -49,7 +38,7 @@ module _ {D A : Type 0} (declared : TypeDecl → List D) (name_of : D → List �
   places-kept all ds (e ∷ es) =
       let here = place-narrowed e (find (λ d. same_text (name_of d) e.name) ds) in let rest = places-kept all ds es in cc
 
-  -- the new declarations of a type stand in file order after those of the types before it
+  -- the new entries of a type have the places of its new declarations
   pub places-of_type : (types : List TypeDecl) (u : ℕ) → u < length types
       → map (λ e. slice_get (all_new_declarations declared name_of types) (id_of e.what)) (new_entries declared name_of made narrowed (first_id declared name_of types u) (new_declarations declared name_of types u))
       ≡ map (λ d. Some d) (new_declarations declared name_of types u)
@@ -57,12 +46,8 @@ module _ {D A : Type 0} (declared : TypeDecl → List D) (name_of : D → List �
       let new = new_declarations declared name_of types in
       let before = flat_map new (range_with_len 0 u) in
       let after = flat_map new (range_with_len (0 + u + 1) (length types - u - 1)) in
-      let sum : length types ≡ u + suc (length types - u - 1) = omega arith in
-      let split : all_new_declarations declared name_of types ≡ before ++ (new u ++ after) =
-      ap (λ n. flat_map new (range_with_len 0 n)) sum ∙ ap (flat_map new) (range-split 0 u (length types - u - 1))
-      ∙ flat_map-append new (range_with_len 0 u) ((0 + u) ∷ range_with_len (0 + u + 1) (length types - u - 1))
-      ∙ ap (λ k. before ++ (new k ++ after)) (zero-add u) in
-      ap (λ all. map (λ e. slice_get all (id_of e.what)) (new_entries declared name_of made narrowed (first_id declared name_of types u) (new u))) split
+      ap (λ all. map (λ e. slice_get all (id_of e.what)) (new_entries declared name_of made narrowed (first_id declared name_of types u) (new u)))
+      (all_new-split declared name_of types u within)
       ∙ places-new_entries (first_id declared name_of types u) before (new u) after (sym (length-flat_map new (range_with_len 0 u)))
 
   places-fold : (types : List TypeDecl) (us : List ℕ) (es : List (Named A)) (firsts : List D) → ((q : ℕ) → list_any (nat_eq q) us ≡ true → q < length types)

@@ -23,7 +23,7 @@ use Rattle.canonical_form.specs.BadLine.{ends_there}
 use Rattle.canonical_form.specs.Reading.{Takes, IsToken, without_sign, is_link_from}
 use Rattle.canonical_form.proofs.Tokens.{token-unique, decimal_digits}
 use Rattle.canonical_form.proofs.OneNext.{within_pos, within_negsuc, sign_apart}
-use Rattle.canonical_form.proofs.ModelTexts.{same_text-refl}
+use Rattle.prod_model.proofs.NameLaws.{same_text-refl}
 
 pub stripped_found : (s p : List ℕ) (r : Option (Bor (List ℕ))) → MatchOption r ((rest : List ℕ) → s ≢ p ++ rest) (λ x. s ≡ p ++ x.now) → IfSome r (λ x. s ≡ p ++ x.now)
 stripped_found s p None cases = tt

@@ -11,7 +11,7 @@ use Rattle.config_value.specs.declared.configuration.Instance.{Instance}
 use Rattle.config_value.specs.Shaped.{has_leaf_types}
 use Rattle.config_value.specs.Spelled.{is_spelled_value, is_spelled_links, is_spelled}
 use Rattle.canonical_form.specs.Written.{IsWritten}
-use Rattle.canonical_form.proofs.Zipped.{list_all-at}
+use Rattle.prod_model.proofs.ListLaws.{list_all-at}
 
 -- there are at most 64 instances
 pub few_instances : (m : Model) (c : List Instance) → is_spelled m c ≡ true → length c ≤ 64

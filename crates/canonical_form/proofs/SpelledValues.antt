@@ -1,5 +1,5 @@
 -- Each attribute of a valid model has a value that can be written: a narrowing keeps a range a range, and words words.
-use Rattle.std.proofs.Common.{◌≡◌, ℕ, pos, zero, suc, ◌+◌, ◌<◌, Bool, true, false, cond, ◌&&◌, ◌||◌, nat_eq, List, [], ◌∷◌, ◌++◌, map, length, drop, reverse, Option, Some, None, refl, sym, ap, subst, ◌∙◌, arith}
+use Rattle.std.proofs.Common.{◌≡◌, ℕ, pos, zero, suc, ◌+◌, ◌<◌, Bool, true, false, cond, ◌&&◌, nat_eq, List, [], ◌∷◌, ◌++◌, map, length, drop, reverse, Option, Some, None, refl, sym, ap, subst, ◌∙◌, arith}
 use Rattle.std.specs.Prelude.{IsTrue, slice_get}
 use Rattle.std.specs.Option.{option_map_or, option_map, option_and_then}
 use Rattle.std.specs.List.{list_all, list_any, find, fold, flat_map}
@@ -23,12 +23,13 @@ use Rattle.prod_model.specs.Taxonomy.{Named, declarations_of, new_declarations, 
 use Rattle.prod_model.specs.Valid.{IsValid, has_narrowings, attribute_narrows, port_narrows, narrows_domain, inherited, has_few_words}
 use Rattle.config_value.specs.Spelled.{is_spelled_value, is_word_place}
 use Rattle.canonical_form.specs.FirstDeclared.{with_new, first_declarations}
-use Rattle.canonical_form.proofs.Forests.{no_cycle, line-stays, IsLine, line-IsLine, line_within-types}
+use Rattle.prod_model.proofs.ListLaws.{list_all-at, list_all-from, list_any-map}
+use Rattle.prod_model.proofs.NameLaws.{same_text-refl}
+use Rattle.prod_model.proofs.ForestLines.{no_cycle, line-stays, IsLine, line-IsLine, line_within-types}
 use Rattle.canonical_form.proofs.Places.{places-of_type}
 use Rattle.canonical_form.proofs.TypeNames.{attribute_names}
 use Rattle.canonical_form.proofs.LookUps.{same_item, named_at}
-use Rattle.canonical_form.proofs.ModelTexts.{all_few, same_text-refl}
-use Rattle.canonical_form.proofs.Zipped.{list_all-at}
+use Rattle.canonical_form.proofs.ModelTexts.{all_few}
 
 -- each of the attributes has 0, or its first word, as a value that can be written
 abbrev pub HaveLeast : Model → List (Named AttrAt) → Type 0
@@ -61,10 +62,6 @@ abbrev is_kept : List AttrDecl → Named AttrAt → Bool
 is_kept all e = option_map_or (λ d. same_form d.domain e.what.domain) (slice_get all e.what.id) false
 
 -- ---- lists
-
-all_at : {X : Type 0} (test : X → Bool) (xs : List X) → ((k : ℕ) (x : X) → slice_get xs k ≡ Some x → test x ≡ true) → list_all test xs ≡ true
-all_at test [] each = refl
-all_at test (x ∷ xs) each = let here = each zero x refl in let rest = all_at test xs (λ k y at. each (suc k) y at) in grind (arith)
 
 all-map : {X Y : Type 0} (test : Y → Bool) (f : X → Y) (xs : List X) → list_all test (map f xs) ≡ list_all (λ x. test (f x)) xs
 all-map test f [] = refl
@@ -100,15 +97,11 @@ distinct_push (n ∷ ns) name new distinct =
     let swap = nat_list_eq_equiv.symm n name in
     grind (arith)
 
-any-map : {X Y : Type 0} (test : Y → Bool) (f : X → Y) (xs : List X) → list_any test (map f xs) ≡ list_any (λ x. test (f x)) xs
-any-map test f [] = refl
-any-map test f (x ∷ xs) = ap (λ b. test (f x) || b) (any-map test f xs)
-
 with_new-distinct : {D : Type 0} (name_of : D → List ℕ) (firsts : List D) (d : D) (b : Bool) → list_any (λ e. same_text (name_of d) (name_of e)) firsts ≡ b
     → is_distinct (map name_of firsts) ≡ true → is_distinct (map name_of (cond b firsts (firsts ++ d ∷ []))) ≡ true
 with_new-distinct name_of firsts d true is distinct = distinct
 with_new-distinct name_of firsts d false is distinct =
-    ap is_distinct (map-append name_of firsts (d ∷ [])) ∙ distinct_push (map name_of firsts) (name_of d) (any-map (same_text (name_of d)) name_of firsts ∙ is) distinct
+    ap is_distinct (map-append name_of firsts (d ∷ [])) ∙ distinct_push (map name_of firsts) (name_of d) (list_any-map (same_text (name_of d)) name_of firsts ∙ is) distinct
 
 firsts-distinct : {D : Type 0} (name_of : D → List ℕ) (ds firsts : List D) → is_distinct (map name_of firsts) ≡ true → is_distinct (map name_of (fold (with_new name_of) firsts ds)) ≡ true
 firsts-distinct name_of [] firsts distinct = distinct
@@ -188,7 +181,7 @@ module _ (m : Model) (valid : IsValid m) where
   inherited_kept d p parent narrows kept =
       let es = attributes_of m.types p in
       all-map (is_kept all_firsts) (kept_by d.attributes) es
-      ∙ all_at (λ e. is_kept all_firsts (kept_by d.attributes e)) es
+      ∙ list_all-from (λ e. is_kept all_firsts (kept_by d.attributes e)) es
       (λ k e at. one_kept d p e (find (λ a. same_text a.name e.name) d.attributes) parent (find_named es k e (names-distinct m p valid) at) refl narrows (list_all-at (is_kept all_firsts) es k e kept at))
 
   narrows_at : (u : ℕ) (d : TypeDecl) → slice_get m.types u ≡ Some d → list_all (attribute_narrows m d) d.attributes ≡ true

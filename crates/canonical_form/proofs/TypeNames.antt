@@ -16,7 +16,7 @@ use Rattle.prod_model.specs.Taxonomy.{Named, new_declarations, all_new_declarati
 use Rattle.prod_model.specs.Valid.{IsValid, has_distinct_names}
 use Rattle.canonical_form.specs.FirstDeclared.{first_declarations}
 use Rattle.canonical_form.proofs.SameNames.{map-map}
-use Rattle.canonical_form.proofs.Forests.{no_cycle, line-IsLine}
+use Rattle.prod_model.proofs.ForestLines.{no_cycle, line-IsLine}
 use Rattle.canonical_form.proofs.Firsts.{HasDistinct, firsts_of-line}
 use Rattle.canonical_form.proofs.Entries.{names-entries_of}
 use Rattle.canonical_form.proofs.Places.{places-entries_of}

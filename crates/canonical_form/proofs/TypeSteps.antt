@@ -15,7 +15,8 @@ use Rattle.canonical_form.specs.AnswerText.{type_name}
 use Rattle.canonical_form.specs.AnswerParts.{behind_name}
 use Rattle.canonical_form.specs.Reading.{Takes, IsToken, type_text}
 use Rattle.canonical_form.proofs.LookUps.{same_item, position-hit, position-miss}
-use Rattle.canonical_form.proofs.ModelTexts.{same_text-refl, leaf_is_type, type_bytes, type_of_name}
+use Rattle.prod_model.proofs.NameLaws.{same_text-refl}
+use Rattle.canonical_form.proofs.ModelTexts.{leaf_is_type, type_bytes, type_of_name}
 use Rattle.canonical_form.proofs.ReadingSteps.{token_is}
 
 name_at : (types : List TypeDecl) (t : ℕ) → t < length types → slice_get (map (λ d. d.name) types) t ≡ Some (option_map_or (λ d. d.name) (slice_get types t) [])

@@ -11,7 +11,8 @@ use Rattle.canonical_form.specs.Pieces.{word_piece}
 use Rattle.canonical_form.specs.AnswerParts.{behind_word}
 use Rattle.canonical_form.specs.Reading.{Takes, IsToken}
 use Rattle.canonical_form.proofs.LookUps.{position-hit, position-miss}
-use Rattle.canonical_form.proofs.ModelTexts.{same_text-refl, word_bytes_at}
+use Rattle.prod_model.proofs.NameLaws.{same_text-refl}
+use Rattle.canonical_form.proofs.ModelTexts.{word_bytes_at}
 use Rattle.canonical_form.proofs.ReadingSteps.{token_is}
 
 at_word : (ws : List (List ℕ)) (n : ℕ) → n < length ws → slice_get ws n ≡ Some (slice_index_or ws n [])

@@ -1,15 +1,10 @@
 -- Lists side by side, read at a place.
-use Rattle.std.proofs.Common.{◌≡◌, ℕ, zero, suc, ◌+◌, ◌<◌, Bool, true, List, [], ◌∷◌, ◌++◌, map, take, length, get_or, Some, refl, sym, ap, ◌∙◌, append_assoc, append-nil, arith}
+use Rattle.std.proofs.Common.{◌≡◌, ℕ, zero, suc, ◌+◌, ◌<◌, List, [], ◌∷◌, ◌++◌, map, take, length, get_or, Some, refl, sym, ap, ◌∙◌, append_assoc, append-nil, arith}
 use Rattle.std.specs.Prelude.{slice_get}
-use Rattle.std.specs.List.{list_all, flat_map, zip}
+use Rattle.std.specs.List.{flat_map, zip}
 use Rattle.std.proofs.lemmas.List.{length-map}
 use Rattle.std.proofs.lemmas.Option.{slice_get_read, slice_get-get_or}
-
-pub slice_get-zip : {X Y : Type 0} (xs : List X) (ys : List Y) (k : ℕ) (x : X) (y : Y) → slice_get xs k ≡ Some x → slice_get ys k ≡ Some y → slice_get (zip xs ys) k ≡ Some (x, y)
-slice_get-zip [] ys k x y at_x at_y = absurd (cc)
-slice_get-zip (v ∷ xs) [] k x y at_x at_y = absurd (cc)
-slice_get-zip (v ∷ xs) (w ∷ ys) zero x y at_x at_y = cc
-slice_get-zip (v ∷ xs) (w ∷ ys) (suc k) x y at_x at_y = slice_get-zip xs ys k x y at_x at_y
+use Rattle.prod_model.proofs.ListLaws.{slice_get-zip}
 
 pub slice_get-map_read : {R X : Type 0} (read : R → X) (rs : List R) (k : ℕ) (r : R) → k < length rs → r ≡ get_or rs k r → slice_get (map read rs) k ≡ Some (read r)
 slice_get-map_read read [] k r within at = absurd (omega arith)
@@ -25,11 +20,6 @@ flat_map-take_more f (y ∷ xs) zero x at = append-nil (f y) ∙ ap f (some_same
 flat_map-take_more f (y ∷ xs) (suc k) x at =
     let e : suc k + 1 ≡ suc (k + 1) = omega arith in
     rw e (ap (λ ys. f y ++ ys) (flat_map-take_more f xs k x at) ∙ sym (append_assoc (f y) (flat_map f (take k xs)) (f x)))
-
-pub list_all-at : {X : Type 0} (p : X → Bool) (xs : List X) (k : ℕ) (x : X) → list_all p xs ≡ true → slice_get xs k ≡ Some x → p x ≡ true
-list_all-at p [] k x all at = absurd (cc)
-list_all-at p (y ∷ xs) zero x all at = let same = some_same y x at in let here : p y ≡ true = grind (arith) in cc
-list_all-at p (y ∷ xs) (suc k) x all at = list_all-at p xs k x (grind (arith)) at
 
 pub length-zip : {X Y : Type 0} (xs : List X) (ys : List Y) → length xs ≡ length ys → length (zip xs ys) ≡ length xs
 length-zip [] ys same = refl

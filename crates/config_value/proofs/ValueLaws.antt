@@ -1,5 +1,5 @@
 -- What `value_at` is at each form of expression.
-use Rattle.std.specs.Prelude.{◌≡◌, ℕ, ℤ, pos, Bool, ◌-ℤ◌, ◌*ℤ◌, not, ◌||◌, List, [], ◌∷◌, map, length, refl}
+use Rattle.std.specs.Prelude.{◌≡◌, ℕ, ℤ, pos, ◌-ℤ◌, ◌*ℤ◌, not, ◌||◌, List, map, length}
 use Rattle.std.specs.Ordering.{int_eq}
 use Rattle.std.specs.List.{list_any, list_all, filter, count_by}
 use Rattle.std.proofs.Common.{ap, ◌∙◌}
@@ -11,14 +11,11 @@ use Rattle.prod_model.specs.declared.expr.Expr.TheOpen.{Num, Attr, Count, CountO
 use Rattle.prod_model.specs.declared.expr.Expr.TheViews.{roll-Expr}
 use Rattle.prod_model.specs.declared.expr.Expr.TheFolds.{fold-roll-Expr}
 use Rattle.prod_model.specs.declared.expr.Relation.{Relation}
+use Rattle.prod_model.proofs.ListLaws.{list_any-map}
 use Rattle.config_value.specs.declared.configuration.Instance.{Instance}
 use Rattle.config_value.specs.declared.found.Found.{Found}
 use Rattle.config_value.specs.declared.found.Found.TheVariants.{Number as number, Truth as truth}
 use Rattle.config_value.specs.Value.{value_at, layer_value, value_at_instance, links_at_instance, value_of, under, is_under, sum_of, as_number, as_truth, holds}
-
-list_any-map : {A B : Type 0} (p : B → Bool) (f : A → B) (xs : List A) → list_any p (map f xs) ≡ list_any (λ x. p (f x)) xs
-list_any-map p f [] = refl
-list_any-map p f (x ∷ xs) = ap (λ b. p (f x) || b) (list_any-map p f xs)
 
 module _ (m : Model) (c : List Instance) (i : ℕ) where
   pub value_at-Num : (n : ℤ) → value_at m c i (roll-Expr (Num n)) ≡ number n

@@ -1,8 +1,7 @@
 -- The faults of an expression are those that the searches look for.
 use Rattle.std.proofs.Common.{◌≡◌, ℕ, zero, suc, ◌+◌, ◌∙◌, sym, ap, subst, refl, Bool, true, false, not, List, [], ◌∷◌, ◌++◌, length, Option, Some, None, Contains, append_assoc, append-nil, inl, inr, arith}
-use Rattle.std.specs.Prelude.{slice_get, is_some, is_none, IsTrue}
+use Rattle.std.specs.Prelude.{is_some, is_none, IsTrue}
 use Rattle.std.specs.Option.{option_map_or, option_and_then}
-use Rattle.std.specs.List.{list_all}
 use Rattle.std.proofs.lemmas.Bool.{false≢true}
 use Rattle.std.proofs.lemmas.Bool.Decides.{nat_tests}
 use Rattle.std.proofs.lemmas.List.Elements.{Contains-append_left, Contains-append_right, Contains-append_cases}
@@ -22,7 +21,7 @@ use Rattle.expr_bounds.specs.declared.kind.Kind.TheVariants.{Deep, UnknownName, 
 use Rattle.expr_bounds.specs.declared.standing.Standing.{Standing}
 use Rattle.expr_bounds.proofs.ArgumentLaws.{argument-index, argument-contained}
 use Rattle.expr_bounds.proofs.PartStandings.{levels_after, levels-left, no-levels, length-step, stands}
-use Rattle.expr_bounds.proofs.FormLaws.{all-at}
+use Rattle.prod_model.proofs.ListLaws.{list_all-at, list_all-from}
 
 -- the kind of a fault, and its path
 pub record Found (m : Model) (e : Expr) (t : ℕ) (f : ExprFault) : Type 0 where
@@ -30,10 +29,6 @@ pub record Found (m : Model) (e : Expr) (t : ℕ) (f : ExprFault) : Type 0 where
   pub path : List ℕ
   pub is : f ≡ fault_of kind path
   pub has : HasFaultAt m kind e (whole_at t) path
-
-pub all-by_index : {X : Type 0} (p : X → Bool) (xs : List X) → ((i : ℕ) (x : X) → slice_get xs i ≡ Some x → p x ≡ true) → list_all p xs ≡ true
-all-by_index p [] each = refl
-all-by_index p (x ∷ xs) each = let here = each 0 x refl in let rest = all-by_index p xs (λ i y found. each (suc i) y found) in grind (arith)
 
 -- ---- each fault is found
 
@@ -44,7 +39,7 @@ all-of : (m : Model) (part : Expr) (of : ℕ)
     → ((k : ℕ) (arg : Expr) → Contains (arguments (out-Expr part)) (k, arg) → IsTrue (option_map_or (λ u. is_some (bounds_at m arg u)) (type_of_arguments m (out-Expr part) (Some of)) false))
     → has_bounded_arguments m part of ≡ true
 all-of m part of each =
-    all-by_index (λ arg. option_map_or (λ u. is_some (bounds_at m arg u)) (type_of_arguments m (out-Expr part) (Some of)) false) (argument_list (out-Expr part))
+    list_all-from (λ arg. option_map_or (λ u. is_some (bounds_at m arg u)) (type_of_arguments m (out-Expr part) (Some of)) false) (argument_list (out-Expr part))
     (λ i arg found. each (first_place (out-Expr part) + i) arg (argument-contained (out-Expr part) i arg found))
 
 pub too-deep : (levels : Option ℕ) → is_too_deep levels ≡ true → levels ≡ Some 0
@@ -165,7 +160,7 @@ module _ (m : Model) (e : Expr) (t : ℕ) where
       subst Fault (sym (append-nil path) ∙ ap (λ r. path ++ r) here.1)
       (wide path part of is (none-of (bounds_at m part of) none) (λ k arg there.
       let at = argument-index (out-Expr part) k arg there in
-      all-at (λ x. option_map_or (λ u. is_some (bounds_at m x u)) (type_of_arguments m (out-Expr part) (Some of)) false) (argument_list (out-Expr part)) at.0 arg all at.1) refl)
+      list_all-at (λ x. option_map_or (λ u. is_some (bounds_at m x u)) (type_of_arguments m (out-Expr part) (Some of)) false) (argument_list (out-Expr part)) at.0 arg all at.1) refl)
 
   pub fault : (k : kind.Kind) (part : Expr) (s : Standing) (rest : List ℕ) → HasFaultAt m k part s rest
       → (path : List ℕ) → IsPart m e t path part s.at → s.levels ≡ levels_after (length path) → Blames path part s → HasExprFault m e t (fault_of k (path ++ rest))

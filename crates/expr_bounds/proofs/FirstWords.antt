@@ -1,12 +1,11 @@
 -- A type that does not inherit an attribute has it as it was declared first.
-use Rattle.std.proofs.Common.{◌≡◌, ℕ, zero, suc, ◌<◌, ◌+◌, ◌-◌, ◌==◌, Bool, true, false, cond, List, [], ◌∷◌, ◌++◌, map, length, length-append, reverse, Option, Some, None, refl, sym, ap, subst, ◌∙◌, append_assoc, zero-add, inl, inr, arith}
+use Rattle.std.proofs.Common.{◌≡◌, ℕ, ◌<◌, ◌+◌, ◌-◌, ◌==◌, Bool, true, false, cond, List, [], ◌∷◌, ◌++◌, map, length, length-append, Option, Some, None, refl, sym, ap, subst, ◌∙◌, append_assoc, inl, inr, arith}
 use Rattle.std.specs.Prelude.{slice_get, IsTrue}
 use Rattle.std.specs.Option.{option_map_or, option_and_then, option_or}
-use Rattle.std.specs.List.{find, flat_map, fold, range_with_len}
-use Rattle.std.proofs.lemmas.List.{map-append, reverse-append}
+use Rattle.std.specs.List.{find, flat_map, range_with_len}
+use Rattle.std.proofs.lemmas.List.{map-append}
 use Rattle.std.proofs.lemmas.List.Concat.{length-flat_map}
 use Rattle.std.proofs.lemmas.List.Folds.{find-append}
-use Rattle.std.proofs.lemmas.Grind.{flat_map-append, fold-append}
 use Rattle.std.proofs.lemmas.Option.{slice_get_within, slice_get_cases}
 use Rattle.std.proofs.lemmas.Bool.Decides.{nat_tests}
 use Rattle.prod_model.specs.declared.model.Model.{Model}
@@ -15,23 +14,11 @@ use Rattle.prod_model.specs.declared.model.AttrDecl.{AttrDecl}
 use Rattle.prod_model.specs.declared.model.AttrAt.{AttrAt}
 use Rattle.prod_model.specs.Names.{same_text}
 use Rattle.prod_model.specs.Forest.{line, is_forest}
-use Rattle.prod_model.specs.Taxonomy.{Named, declarations_of, new_declarations, all_new_declarations, first_id, new_entries, kept_entry, extended_entries, entries_of, made_attribute, attributes_of, attributes_at, attribute_of, words_of, first_words}
+use Rattle.prod_model.specs.Taxonomy.{Named, declarations_of, new_declarations, all_new_declarations, first_id, new_entries, kept_entry, entries_of, made_attribute, attributes_of, attributes_at, attribute_of, words_of, first_words}
 use Rattle.expr_bounds.specs.Parents.{parent_of}
-use Rattle.expr_bounds.proofs.Forests.{HasNoCycle, no_cycle, line-of_parent}
-
--- ---- places in a list
-
--- what stands after as many elements as there are before it
-slice_get-middle : {X : Type 0} (before : List X) (x : X) (rest : List X) → slice_get (before ++ x ∷ rest) (length before) ≡ Some x
-slice_get-middle [] x rest = refl
-slice_get-middle (b ∷ before) x rest = slice_get-middle before x rest
-
-range-split : (a k r : ℕ) → range_with_len a (k + suc r) ≡ range_with_len a k ++ (a + k) ∷ range_with_len (a + k + 1) r
-range-split a zero r = let e : 0 + suc r ≡ suc r = omega arith in let f : a + 0 ≡ a = omega arith in rw (e, f) refl
-range-split a (suc k) r =
-    let e : suc k + suc r ≡ suc (k + suc r) = omega arith in
-    let f : a + suc k ≡ a + 1 + k = omega arith in
-    rw (e, f) (ap (λ ns. a ∷ ns) (range-split (a + 1) k r))
+use Rattle.prod_model.proofs.ListLaws.{slice_get-middle}
+use Rattle.prod_model.proofs.ForestLines.{HasNoCycle, no_cycle, line-of_parent}
+use Rattle.prod_model.proofs.EntryLaws.{entries-of_parent, all_new-split}
 
 -- ---- entries
 
@@ -91,36 +78,10 @@ find-new id k before (d ∷ ds) after a place found =
     ∙ find-new id (k + 1) (before ++ d ∷ []) ds after a (omega (arith, length-append {A = AttrDecl})) rest)
     found
 
--- ---- the entries of a type are those of its parent, narrowed, and new ones
-
 abbrev entries : List TypeDecl → ℕ → List (Named AttrAt)
 entries types t = entries_of declared name_of made_attribute narrowed types t
 
-parent-entries : (types : List TypeDecl) (parent : Option ℕ)
-    → fold (extended_entries declared name_of made_attribute narrowed types) [] (reverse (option_map_or (line types) parent [])) ≡ option_map_or (entries types) parent []
-parent-entries types None = refl
-parent-entries types (Some p) = refl
-
-entries-of_parent : (types : List TypeDecl) → HasNoCycle types → (t : ℕ) (kind : TypeDecl) → slice_get types t ≡ Some kind
-    → entries types t ≡ extended_entries declared name_of made_attribute narrowed types (option_map_or (entries types) kind.parent []) t
-entries-of_parent types forest t kind is =
-    let extended = extended_entries declared name_of made_attribute narrowed types in
-    let above = option_map_or (line types) kind.parent [] in
-    ap (λ us. fold extended [] (reverse us)) (line-of_parent types forest t kind is)
-    ∙ ap (fold extended []) (reverse-append (t ∷ []) above)
-    ∙ fold-append extended [] (reverse above) (t ∷ [])
-    ∙ ap (λ es. extended es t) (parent-entries types kind.parent)
-
--- the new declarations of a type stand in file order after those of the types before it
-all-split : (types : List TypeDecl) (t : ℕ) → t < length types
-    → all_new_declarations declared name_of types
-    ≡ flat_map (new_of types) (range_with_len 0 t) ++ (new_of types t ++ flat_map (new_of types) (range_with_len (0 + t + 1) (length types - t - 1)))
-all-split types t within =
-    let new = new_of types in
-    let sum : length types ≡ t + suc (length types - t - 1) = omega arith in
-    ap (λ n. flat_map new (range_with_len 0 n)) sum ∙ ap (flat_map new) (range-split 0 t (length types - t - 1))
-    ∙ flat_map-append new (range_with_len 0 t) ((0 + t) ∷ range_with_len (0 + t + 1) (length types - t - 1))
-    ∙ ap (λ k. flat_map new (range_with_len 0 t) ++ (new k ++ flat_map new (range_with_len (0 + t + 1) (length types - t - 1)))) (zero-add t)
+-- ---- of what a type has, what its parent hasn't is new
 
 from-new : (inherited found : Option AttrAt) (a : AttrAt) → inherited ≡ None → option_or inherited found ≡ Some a → found ≡ Some a
 from-new None found a none is = is
@@ -134,12 +95,12 @@ first_words-within types forest t kind id a is none found =
     let old = map (kept (declarations_of declared name_of types t)) inherited in
     let added = new_from (first_id declared name_of types t) (new_of types t) in
     let parts : find (has_id id) (whats (entries types t)) ≡ option_or (find (has_id id) (whats old)) (find (has_id id) (whats added)) =
-    ap (λ es. find (has_id id) (whats es)) (entries-of_parent types forest t kind is)
+    ap (λ es. find (has_id id) (whats es)) (entries-of_parent declared name_of made_attribute narrowed types forest t kind is)
     ∙ ap (find (has_id id)) (map-append (λ e. e.what) old added)
     ∙ find-append (has_id id) (whats old) (whats added) in
     let new = from-new (find (has_id id) (whats old)) (find (has_id id) (whats added)) a
     (find-kept id (declarations_of declared name_of types t) inherited none) (sym parts ∙ found) in
-    ap (λ all. word_list (slice_get all id)) (all-split types t (slice_get_within types t kind is))
+    ap (λ all. word_list (slice_get all id)) (all_new-split declared name_of types t (slice_get_within types t kind is))
     ∙ find-new id (first_id declared name_of types t) (flat_map (new_of types) (range_with_len 0 t)) (new_of types t)
     (flat_map (new_of types) (range_with_len (0 + t + 1) (length types - t - 1))) a (sym (length-flat_map (new_of types) (range_with_len 0 t))) new
 

@@ -1,5 +1,5 @@
 -- The arguments of a form of the language: there are few, and each is a form of the language.
-use Rattle.std.proofs.Common.{◌≡◌, ℕ, ◌≤◌, ◌∙◌, sym, ap, refl, zero, suc, Bool, true, ◌&&◌, List, [], ◌∷◌, map, length, Some, IsTrue, arith}
+use Rattle.std.proofs.Common.{◌≡◌, ℕ, ◌≤◌, ◌∙◌, sym, ap, refl, Bool, true, ◌&&◌, List, [], ◌∷◌, map, length, Some, IsTrue, arith}
 use Rattle.std.specs.Prelude.{slice_get}
 use Rattle.std.specs.List.{list_all}
 use Rattle.std.proofs.lemmas.List.{length-map}
@@ -9,6 +9,7 @@ use Rattle.prod_model.specs.declared.expr.Expr.TheOpen.{Expr-F, Add, Sub, Times,
 use Rattle.prod_model.specs.declared.expr.Expr.TheViews.{out-Expr, roll-Expr, roll-out-Expr}
 use Rattle.prod_model.specs.declared.expr.Expr.TheFolds.{fold-roll-Expr}
 use Rattle.prod_model.specs.ExprBounds.{has_arguments}
+use Rattle.prod_model.proofs.ListLaws.{list_all-at}
 use Rattle.expr_bounds.specs.Arguments.{argument_list}
 use Rattle.expr_bounds.specs.Forms.{is_form, layer_is_form}
 
@@ -49,13 +50,8 @@ formed-roll form formed = formed-none
 formed-arguments : (e : Expr) → IsTrue (is_form e) → HasFormedArguments (argument_list (out-Expr e))
 formed-arguments e formed = formed-roll (out-Expr e) (ap is_form (roll-out-Expr e) ∙ formed)
 
-pub all-at : {X : Type 0} (p : X → Bool) (xs : List X) (i : ℕ) (x : X) → list_all p xs ≡ true → slice_get xs i ≡ Some x → p x ≡ true
-all-at p [] i x all found = cc
-all-at p (y ∷ ys) zero x all found = let same : y ≡ x = cc in let here : p y ≡ true = grind (arith) in ap p (sym same) ∙ here
-all-at p (y ∷ ys) (suc i) x all found = all-at p ys i x (grind (arith)) found
-
 pub few-arguments : (e : Expr) → IsTrue (is_form e) → length (argument_list (out-Expr e)) ≤ 64
 few-arguments e formed = (formed-arguments e formed).0
 
 pub formed-argument : (e : Expr) (i : ℕ) (arg : Expr) → IsTrue (is_form e) → slice_get (argument_list (out-Expr e)) i ≡ Some arg → IsTrue (is_form arg)
-formed-argument e i arg formed found = all-at is_form (argument_list (out-Expr e)) i arg (formed-arguments e formed).1 found
+formed-argument e i arg formed found = list_all-at is_form (argument_list (out-Expr e)) i arg (formed-arguments e formed).1 found

@@ -22,7 +22,7 @@ use Rattle.expr_bounds.specs.Arguments.{argument_list}
 use Rattle.expr_bounds.specs.Parts.{type_of_arguments}
 use Rattle.expr_bounds.specs.FormBounds.{form_bounds}
 use Rattle.expr_bounds.specs.Faults.{place_unless, has_range, has_words, is_known_word, unknown_names, wrong_attributes, is_truth_form, needs_truths}
-use Rattle.expr_bounds.proofs.Rows.{no_attributes}
+use Rattle.prod_model.proofs.TaxonomyLaws.{no_attributes}
 
 -- whether it is a truth
 abbrev pub kind_of : Option Bounds → Option Bool

@@ -15,5 +15,4 @@ pub mod PathOrder
 pub mod Rows
 pub mod SampleLaws
 pub mod Turns
-pub mod Forests
 pub mod FirstWords

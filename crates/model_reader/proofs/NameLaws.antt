@@ -4,14 +4,11 @@ use Rattle.std.proofs.lemmas.Grind.{take_at_read}
 use Rattle.std.proofs.lemmas.Bool.{true≢false}
 use Rattle.std.proofs.lemmas.List.{map-append, take-append-drop, take_all}
 use Rattle.std.proofs.lemmas.List.Folds.{list_any-append}
-use Rattle.std.specs.Borrow.{Bor}
 use Rattle.std.specs.Prelude.{not, ◌&&◌, if◌then◌else◌}
-use Rattle.std.specs.List.{list_any, position, position_or_len}
-use Rattle.std.specs.Cmp.Lexicographic.{nat_list_eq_equiv}
-use Rattle.std.proofs.lemmas.List.{length-map}
+use Rattle.std.specs.List.{list_any}
 use Rattle.std.proofs.lemmas.Bool.Decides.{nat_tests}
 use Rattle.prod_model.specs.Names.{is_name, same_text, is_distinct}
-use Rattle.model_reader.proofs.MemberLaws.{list_any_map}
+use Rattle.prod_model.proofs.NameLaws.{same_text-symm, list_any-now, position-now}
 
 pub name_some : (bytes : List ℕ) → is_name bytes ≡ true → 1 ≤ length bytes
 unfolding is_name
@@ -21,27 +18,6 @@ name_some (b ∷ bs) h = grind (arith, nat_tests)
 pub name_short : (bytes : List ℕ) → is_name bytes ≡ true → length bytes ≤ 32
 unfolding is_name
 name_short bytes h = grind (arith, nat_tests)
-
-pub same_text-symm : (a b : List ℕ) → same_text a b ≡ same_text b a
-same_text-symm = nat_list_eq_equiv.symm
-
--- borrowed names are searched as the names are
-pub list_any-now : (name : List ℕ) (texts : List (Bor (List ℕ))) →
-    list_any (same_text name) (map (λ t. t.now) texts) ≡ list_any (λ t. same_text name t.now) texts
-list_any-now name texts = list_any_map (same_text name) (λ t. t.now) texts
-
-position_or_len-map : {A B : Type 0} (f : A → B) (p : B → Bool) (q : A → Bool) → ((x : A) → p (f x) ≡ q x) → (xs : List A) →
-    position_or_len p (map f xs) ≡ position_or_len q xs
-position_or_len-map f p q same [] = refl
-position_or_len-map f p q same (x ∷ xs) = rw (same x, position_or_len-map f p q same xs) refl
-
-pub position-map : {A B : Type 0} (f : A → B) (p : B → Bool) (q : A → Bool) → ((x : A) → p (f x) ≡ q x) → (xs : List A) →
-    position p (map f xs) ≡ position q xs
-position-map f p q same xs = rw (position_or_len-map f p q same xs, length-map xs f) refl
-
-pub position-now : (name : List ℕ) (texts : List (Bor (List ℕ))) →
-    position (λ n. same_text n name) (map (λ t. t.now) texts) ≡ position (λ t. same_text name t.now) texts
-position-now name texts = position-map (λ t. t.now) (λ n. same_text n name) (λ t. same_text name t.now) (λ t. same_text-symm t.now name) texts
 
 pub ruleset searching = (list_any-now, position-now)
 

@@ -1,5 +1,9 @@
 pub mod TaxonomyLaws
 pub mod Masks
+pub mod ListLaws
+pub mod NameLaws
+pub mod ForestLines
+pub mod EntryLaws
 pub mod ValidModels
 mod Examples
 pub mod ExprBoundsLaws

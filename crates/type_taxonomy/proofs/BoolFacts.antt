@@ -1,5 +1,5 @@
 -- Tests, of each element and of each number.
-use Rattle.std.proofs.Common.{◌≡◌, ℕ, ◌+◌, ◌<◌, ◌≤◌, zero, suc, Bool, true, false, not, ◌&&◌, IsTrue, List, [], ◌∷◌, sym, ap, ◌∙◌, refl, arith, add-zero}
+use Rattle.std.proofs.Common.{◌≡◌, ℕ, ◌+◌, ◌<◌, ◌≤◌, zero, suc, Bool, true, false, not, ◌&&◌, IsTrue, List, [], ◌∷◌, sym, ap, ◌∙◌, refl, arith}
 use Rattle.std.specs.List.{list_all, range_with_len}
 use Rattle.type_taxonomy.specs.Faults.{Has}
 
@@ -26,13 +26,6 @@ list_all_range p a zero each = refl
 list_all_range p a (suc n) each =
     and_both (p a) (list_all p (range_with_len (a + 1) n)) (each a (omega arith) (omega arith))
     (list_all_range p (a + 1) n (λ k low high. each k (omega arith) (omega arith)))
-
-pub list_all_in_range : (p : ℕ → Bool) (a n k : ℕ) → list_all p (range_with_len a n) ≡ true → k < n → p (a + k) ≡ true
-list_all_in_range p a zero k all within = absurd (omega arith)
-list_all_in_range p a (suc n) zero all within = ap p (add-zero a) ∙ (and_parts (p a) (list_all p (range_with_len (a + 1) n)) all).0
-list_all_in_range p a (suc n) (suc k) all within =
-    let same : a + suc k ≡ (a + 1) + k = omega arith in
-    ap p same ∙ list_all_in_range p (a + 1) n k (and_parts (p a) (list_all p (range_with_len (a + 1) n)) all).1 (omega arith)
 
 pub opposite : (b : Bool) → IsTrue (not b) → b ≡ false
 opposite true turned = cc

@@ -8,7 +8,7 @@ use Rattle.prod_model.specs.declared.model.TypeDecl.{TypeDecl}
 use Rattle.prod_model.specs.Names.{same_text, is_distinct}
 use Rattle.prod_model.specs.Valid.{has_distinct_names}
 use Rattle.type_taxonomy.proofs.BoolFacts.{and_parts, opposite, list_all_at}
-use Rattle.type_taxonomy.proofs.NearestLaws.{same_text-symm}
+use Rattle.prod_model.proofs.NameLaws.{same_text-symm}
 
 or_parts : (a b : Bool) → (a || b) ≡ false → (a ≡ false) × (b ≡ false)
 or_parts true b none = cc

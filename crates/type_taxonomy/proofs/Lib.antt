@@ -1,7 +1,6 @@
 pub mod AboveLaws
 pub mod BoolFacts
 pub mod BuiltLaws
-pub mod Circles
 pub mod DistinctNames
 pub mod Filling
 pub mod Finished

@@ -2,13 +2,14 @@
 use Rattle.std.proofs.Common.{◌≡◌, ℕ, ◌+◌, ◌≤◌, zero, suc, Bool, true, false, cond, not, ◌||◌, List, [], ◌∷◌, ◌++◌, length, map, drop, fold, reverse, sym, ap, subst, ◌∙◌, refl, Option, Some, None, slice_get, arith}
 use Rattle.std.specs.Option.{option_map, option_map_or, option_or}
 use Rattle.std.specs.List.{find, filter, filter_map, cons_option, flat_map, list_any}
-use Rattle.std.specs.Cmp.Lexicographic.{same_text as text_of_same, nat_list_eq_equiv}
+use Rattle.std.specs.Cmp.Lexicographic.{same_text as text_of_same}
 use Rattle.std.proofs.lemmas.List.Folds.{find-append, list_any-append}
 use Rattle.std.proofs.lemmas.Option.{slice_get_within}
 use Rattle.prod_model.specs.declared.model.TypeDecl.{TypeDecl}
 use Rattle.prod_model.specs.Forest.{line, line_within, ancestors}
 use Rattle.prod_model.specs.Names.{same_text}
 use Rattle.prod_model.specs.Taxonomy.{Named, declarations_of, kept_entry, new_declarations, first_id, extended_entries}
+use Rattle.prod_model.proofs.NameLaws.{same_text-symm}
 use Rattle.type_taxonomy.specs.Entries.{placed, placed_again, is_new_among, numbered, narrowed_by, new_of, placed_of}
 use Rattle.type_taxonomy.specs.TypeForest.{IsForest}
 use Rattle.type_taxonomy.proofs.Filling.{length-line-parent}
@@ -35,9 +36,6 @@ kinds-step types t d forest is_type =
 -- no line starts where there is no type
 pub line-none : (types : List TypeDecl) (t : ℕ) → slice_get types t ≡ None → line types t ≡ []
 line-none types t none = ap (λ o. option_map_or (λ d. t ∷ option_map_or (line_within (length types) types) d.parent []) o []) none
-
-pub same_text-symm : (a b : List ℕ) → same_text a b ≡ same_text b a
-same_text-symm = nat_list_eq_equiv.symm
 
 pub or_none : {A : Type 0} (o p : Option A) → option_or o p ≡ None → (o ≡ None) × (p ≡ None)
 or_none None p none = (refl, none)

@@ -4,7 +4,8 @@ use Rattle.std.proofs.lemmas.Grind.{common_steps}
 use Rattle.std.proofs.lemmas.Int.{ints, to_z-of_z}
 use Rattle.std.proofs.lemmas.List.{take_all}
 use Rattle.canonical_form.specs.Pieces.{attribute_piece, is_written}
-use Rattle.canonical_form.proofs.Zipped.{flat_map-take_more, list_all-at, triple_read, length-triple}
+use Rattle.prod_model.proofs.ListLaws.{list_all-at}
+use Rattle.canonical_form.proofs.Zipped.{flat_map-take_more, triple_read, length-triple}
 use Rattle.canonical_form.proofs.pieces.put_attributes.Goals as goal
 
 pub put_attribute-requires : goal.put_attribute-requires

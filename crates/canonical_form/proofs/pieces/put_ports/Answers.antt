@@ -4,7 +4,8 @@ use Rattle.std.proofs.lemmas.Grind.{common_steps}
 use Rattle.std.proofs.lemmas.List.{length-map, take_all}
 use Rattle.std.proofs.lemmas.Option.{slice_get_read}
 use Rattle.canonical_form.specs.Pieces.{port_piece}
-use Rattle.canonical_form.proofs.Zipped.{slice_get-zip, slice_get-map_read, flat_map-take_more, length-zip}
+use Rattle.prod_model.proofs.ListLaws.{slice_get-zip}
+use Rattle.canonical_form.proofs.Zipped.{slice_get-map_read, flat_map-take_more, length-zip}
 use Rattle.canonical_form.proofs.pieces.put_ports.Goals as goal
 
 pub loop-k-preserved : goal.loop-k-preserved

@@ -1,7 +1,8 @@
 use Rattle.std.proofs.Common.{refl, arith}
 use Rattle.std.proofs.lemmas.Grind.{common_steps}
 use Rattle.std.proofs.lemmas.Option.{slice_get_read}
-use Rattle.canonical_form.proofs.LookUps.{distinct_before, list_any-now}
+use Rattle.prod_model.proofs.NameLaws.{list_any-now}
+use Rattle.canonical_form.proofs.LookUps.{distinct_before}
 use Rattle.canonical_form.proofs.reading.type_names.texts_of.Goals as goal
 
 pub loop-kind-preserved : goal.loop-kind-preserved

@@ -1,7 +1,7 @@
 use Rattle.std.proofs.Common.{◌∙◌, sym, ap}
 use Rattle.std.specs.List.{position}
 use Rattle.prod_model.specs.Names.{same_text}
-use Rattle.canonical_form.proofs.LookUps.{position-now}
+use Rattle.prod_model.proofs.NameLaws.{position-now}
 use Rattle.canonical_form.proofs.reading.type_names.TypeNames.place_of.Goals as goal
 
 pub returns-in_err-place : goal.returns-in_err-place

@@ -1,0 +1,29 @@
+-- Names that are the same, and names that are looked up in a list.
+use Rattle.std.proofs.Common.{◌≡◌, ℕ, true, List, [], ◌∷◌, map, refl, arith}
+use Rattle.std.specs.Borrow.{Bor}
+use Rattle.std.specs.List.{list_any, position}
+use Rattle.std.specs.Cmp.Lexicographic.{nat_list_eq_equiv}
+use Rattle.std.proofs.lemmas.Bool.Decides.{nat_tests}
+use Rattle.prod_model.specs.Names.{same_text}
+use Rattle.prod_model.proofs.ListLaws.{list_any-map, position-map}
+
+-- a text is the same as itself
+pub same_text-refl : (t : List ℕ) → same_text t t ≡ true
+same_text-refl [] = refl
+same_text-refl (b ∷ bs) = let rest = same_text-refl bs in grind (arith, nat_tests)
+
+-- either way round
+pub same_text-symm : (a b : List ℕ) → same_text a b ≡ same_text b a
+same_text-symm = nat_list_eq_equiv.symm
+
+-- one of the borrowed names is the same as one of the names
+pub list_any-now : (name : List ℕ) (texts : List (Bor (List ℕ)))
+    → list_any (same_text name) (map (λ t. t.now) texts) ≡ list_any (λ t. same_text name t.now) texts
+list_any-now name texts = list_any-map (same_text name) (λ t. t.now) texts
+
+-- borrowed names are searched as the names are
+pub position-now : (name : List ℕ) (texts : List (Bor (List ℕ)))
+    → position (λ n. same_text n name) (map (λ t. t.now) texts) ≡ position (λ t. same_text name t.now) texts
+position-now name texts =
+    position-map (λ t. t.now) (λ n. same_text n name) (λ t. same_text name t.now)
+    (λ t. same_text-symm t.now name) texts
