@@ -1,34 +1,44 @@
 -- Maps from names to the nearest declarations.
-use Rattle.std.proofs.Common.{◌≡◌, ℕ, ◌≤◌, suc, Bool, true, false, cond, not, ◌&&◌, ◌||◌, nat_lt, is_some, List, [], ◌∷◌, length, sym, ap, ◌∙◌, refl, Option, Some, None, slice_get, arith}
+use Rattle.std.proofs.Common.{◌≡◌, ℕ, ◌≤◌, suc, Bool, true, false, cond, not, ◌&&◌, ◌||◌, nat_lt, is_some, is_none, List, [], ◌∷◌, length, sym, ap, ◌∙◌, refl, Option, Some, None, slice_get, arith}
 use Rattle.std.specs.Borrow.{Bor}
 use Rattle.std.specs.Option.{option_map, option_map_or, option_or}
-use Rattle.std.specs.List.{find, filter_map, cons_option, list_any}
-use Rattle.std.specs.Str.{bytes_eq}
-use Rattle.std.specs.HashMap.{UpdatesBy}
+use Rattle.std.specs.List.{find, filter_map, cons_option, flat_map, list_any}
 use Rattle.std.proofs.Math.Bool.{and-true, and-false}
 use Rattle.std.proofs.lemmas.Bool.Decides.{nat_tests}
-use Rattle.std.proofs.lemmas.Map.Text.{hash_map_updates_str}
-use Rattle.indexmap.specs.IndexMap.{IndexMap, get_by}
+use Rattle.std.proofs.lemmas.List.Folds.{list_any-append}
+use Rattle.indexmap.specs.IndexMap.{IndexMap}
 use Rattle.prod_model.specs.declared.model.TypeDecl.{TypeDecl}
 use Rattle.prod_model.specs.Names.{same_text}
 use Rattle.prod_model.specs.Taxonomy.{declarations_of}
-use Rattle.type_taxonomy.specs.declared.above.Found.{Found}
-use Rattle.type_taxonomy.specs.Above.{found, found_at, found_along, passes_nearest}
+use Rattle.type_taxonomy.specs.Above.{found_along, passes_nearest}
+use Rattle.type_taxonomy.specs.ByName.{found, found_at}
+use Rattle.type_taxonomy.specs.declared.by_name.Found.{Found}
+use Rattle.type_taxonomy.specs.Entries.{is_new_among}
 use Rattle.type_taxonomy.specs.Nearest.{declares}
+use Rattle.type_taxonomy.proofs.ByNameLaws.{none_or, none_at}
 use Rattle.type_taxonomy.proofs.Sorts.{declares_by}
 
-cond-map : {A B : Type 0} (f : A → B) (b : Bool) (x : A) (o : Option A) → option_map f (cond b (Some x) o) ≡ cond b (Some (f x)) (option_map f o)
-cond-map f true x o = refl
-cond-map f false x o = refl
+-- ---- which names are free
 
--- after a declaration is put under a name
-pub found_put : {D S : Type 0} (m n : IndexMap (Bor (List ℕ)) (Found D) S) (key : Bor (List ℕ)) (name : List ℕ) (f : Found D)
-    → UpdatesBy (λ x y. bytes_eq x.now y.now) (λ k. bytes_eq key.now k.now) m n (Some f) → key.now ≡ name
-    → (q : List ℕ) → found n q ≡ cond (same_text name q) (Some (f.height, f.declared.now)) (found m q)
-found_put m n key name f updates is q =
-    ap (option_map (λ g. (g.height, g.declared.now))) (hash_map_updates_str key.now m n (Some f) updates q)
-    ∙ cond-map (λ g. (g.height, g.declared.now)) (same_text key.now q) f (get_by (λ k. same_text q k.now) m)
-    ∙ ap (λ l. cond (same_text l q) (Some (f.height, f.declared.now)) (found m q)) is
+module _ {D : Type 0} (declared : TypeDecl → List D) (name_of : D → List ℕ) where
+  -- nothing is found along a line exactly where none of its types declares the name
+  none_along : (types : List TypeDecl) (line : List ℕ) (name : List ℕ)
+      → is_none (found_along declared name_of types line name) ≡ not (list_any (λ d. same_text name (name_of d)) (flat_map (declarations_of declared name_of types) line))
+  none_along types [] name = refl
+  none_along types (t ∷ line) name =
+      let here = declarations_of declared name_of types t in
+      let above = flat_map (declarations_of declared name_of types) line in
+      let has_name = λ (d : D). same_text name (name_of d) in
+      none_or (found_at name_of (suc (length line)) here name) (found_along declared name_of types line name) (list_any has_name here) (list_any has_name above)
+      (none_at name_of (suc (length line)) here name) (none_along types line name)
+      ∙ ap not (sym (list_any-append has_name here above))
+
+  -- a declaration is new where its name is free above
+  pub new_told : {S : Type 0} (types : List TypeDecl) (ancestors : List ℕ) (names : IndexMap (Bor (List ℕ)) (Found D) S) (d : D) (name : List ℕ) (free : Bool)
+      → ((q : List ℕ) → found names q ≡ found_along declared name_of types ancestors q) → name ≡ name_of d → free ≡ is_none (found names name)
+      → is_new_among declared name_of types ancestors d ≡ free
+  new_told types ancestors names d name free are_above is_name is_free =
+      sym (none_along types ancestors (name_of d)) ∙ ap is_none (sym (are_above (name_of d))) ∙ ap (λ n. is_none (found names n)) (sym is_name) ∙ sym is_free
 
 -- ---- which declaration is nearest
 
@@ -82,8 +92,8 @@ module _ {D E : Type 0} (declared : TypeDecl → List D) (name_of : D → List �
   nearer_at : (test : D → Bool) (n : ℕ) (kind : Option TypeDecl) (name : List ℕ) (later : Option (ℕ × D)) (later' : Option (ℕ × E)) (rest : List TypeDecl) → IsLow n later → IsLow n later'
       → option_map_or (λ d. option_map_or test (find (λ e. same_text (name_of e) name) (declared d)) false) (find (declares name) rest) true ≡ passes_nearest test later later'
       → option_map_or (λ d. option_map_or test (find (λ e. same_text (name_of e) name) (declared d)) false) (find (declares name) (cons_option kind rest)) true
-      ≡ passes_nearest test (option_or (found_at declared name_of (suc n) (option_map_or declared kind []) name) later)
-      (option_or (found_at other other_name (suc n) (option_map_or other kind []) name) later')
+      ≡ passes_nearest test (option_or (found_at name_of (suc n) (option_map_or declared kind []) name) later)
+      (option_or (found_at other_name (suc n) (option_map_or other kind []) name) later')
   nearer_at test n None name later later' rest low low' above = above
   nearer_at test n (Some d) name later later' rest low low' above =
       let tells = λ (k : TypeDecl). option_map_or test (find (λ e. same_text (name_of e) name) (declared k)) false in

@@ -1,9 +1,10 @@
 -- Rows are filled, parents before the types under them.
-use Rattle.std.proofs.Common.{◌≡◌, ◌≢◌, ℕ, ◌+◌, ◌<◌, ◌≤◌, ◌⊎◌, suc, List, [], ◌++◌, length, map, get_or, set, inl, inr, sym, ap, ◌∙◌, refl, Option, Some, None, IfSome, slice_get, arith, rules}
+use Rattle.std.proofs.Common.{◌≡◌, ◌≢◌, ℕ, ◌+◌, ◌<◌, ◌≤◌, ◌⊎◌, suc, List, [], ◌++◌, length, map, get_or, set, inl, inr, sym, ap, ◌∙◌, refl, Option, Some, None, IfSome, slice_get, arith, rules, zero-add}
+use Rattle.std.specs.List.{All}
 use Rattle.std.specs.Option.{option_map_or}
 use Rattle.std.proofs.lemmas.Bool.{cases_eq}
 use Rattle.std.proofs.lemmas.List.{length-map, get_or-map, get_or-set_same, get_or-set_other}
-use Rattle.std.proofs.lemmas.List.FromFn.{fill_by_all}
+use Rattle.std.proofs.lemmas.List.FromFn.{fill_by_all, get_or-map-range_with_len}
 use Rattle.std.proofs.Math.ListN.{length-set}
 use Rattle.prod_model.specs.declared.model.TypeDecl.{TypeDecl}
 use Rattle.prod_model.specs.Forest.{line, type_numbers}
@@ -11,6 +12,7 @@ use Rattle.type_taxonomy.specs.declared.entry.Entry.{Entry}
 use Rattle.type_taxonomy.specs.Entries.{named, narrowed_by, new_of, placed_of}
 use Rattle.type_taxonomy.specs.TypeForest.{IsForest, HasRows}
 use Rattle.type_taxonomy.proofs.ForestLaws.{line-step, placed_of-step}
+use Rattle.type_taxonomy.proofs.Items.{length_table}
 
 -- the types whose lines are shorter, and those of this length before this type
 abbrev pub IsFilled : List TypeDecl → ℕ → ℕ → ℕ → Type 0
@@ -80,10 +82,18 @@ pub parent_within : (types : List TypeDecl) (t n : ℕ) (d : TypeDecl) (parent :
 parent_within types t n d None forest is_type is_parent size = search rules
 parent_within types t n d (Some p) forest is_type is_parent size = omega (arith, forest.known t p d is_type is_parent)
 
+-- No line is longer than the longest.
+pub lines_within : (types : List TypeDecl) (lines : List (List ℕ)) (depth : ℕ) → lines ≡ map (line types) (type_numbers types) → All (λ l. length l ≤ depth) lines
+    → (t : ℕ) → t < length types → length (line types t) ≤ depth
+lines_within types lines depth are within t is_type =
+    let size : length lines ≡ length types = length_table (line types) lines (length types) are in
+    let same : get_or lines t [] ≡ line types t = ap (λ l. get_or l t []) are ∙ get_or-map-range_with_len (line types) 0 (length types) t t [] is_type (zero-add t) in
+    omega (arith, ap length same, within t [] (omega arith))
+
 -- Once the lines of every length are gone over, each type has its row.
-pub all_filled : {D : Type 0} (declared : TypeDecl → List D) (name_of : D → List ℕ) (types : List TypeDecl) (rows : List (List (Entry D))) → IsForest types
-    → HasRows declared name_of types (λ t. length (line types t) < length types + 1) rows
+pub all_filled : {D : Type 0} (declared : TypeDecl → List D) (name_of : D → List ℕ) (types : List TypeDecl) (rows : List (List (Entry D))) (depth : ℕ)
+    → ((t : ℕ) → t < length types → length (line types t) ≤ depth) → HasRows declared name_of types (λ t. length (line types t) < depth + 1) rows
     → map (map (named name_of)) rows ≡ map (placed_of declared name_of types) (type_numbers types)
-all_filled declared name_of types rows forest filled =
+all_filled declared name_of types rows depth within filled =
     fill_by_all (placed_of declared name_of types) (map (map (named name_of)) rows) (length types) [] (length-map rows (map (named name_of)) ∙ filled.each)
-    (λ t within. get_or-map (map (named name_of)) rows t [] [] (omega (arith, filled.each)) ∙ filled.done t within (omega (arith, forest.ends t within)))
+    (λ t is_type. get_or-map (map (named name_of)) rows t [] [] (omega (arith, filled.each)) ∙ filled.done t is_type (omega (arith, within t is_type)))

@@ -1,11 +1,10 @@
 -- Lists, an item at a time.
 use Rattle.std.proofs.Common.{◌≡◌, ℕ, ◌+◌, ◌<◌, suc, Bool, List, [], ◌∷◌, length, get_or, map, sym, ap, ◌∙◌, refl, cond}
-use Rattle.std.proofs.Common.{zero, zero-add, ◌++◌, ◌||◌, ◌≤◌, not, take, sum_by, arith, length-append, add-zero}
-use Rattle.std.specs.List.{filter, flat_map, list_any, range_with_len}
+use Rattle.std.proofs.Common.{zero, zero-add, ◌++◌, ◌≤◌, not, take, sum_by, arith, length-append, add-zero}
+use Rattle.std.specs.List.{filter, range_with_len}
 use Rattle.std.proofs.lemmas.List.{map-append, length-map, get_or-map, take_more}
 use Rattle.std.proofs.lemmas.List.Elements.{filter-append}
 use Rattle.std.proofs.lemmas.List.Filters.{length-filter_both}
-use Rattle.std.proofs.lemmas.List.Folds.{list_any-append}
 use Rattle.std.proofs.lemmas.List.FromFn.{map-range_with_len_more, length-map-range_with_len, get_or-map-range_with_len}
 use Rattle.std.proofs.lemmas.List.Sums.{sum_by-append, sum_by_more_le}
 
@@ -19,11 +18,6 @@ table_more f xs ys n x so_far pushed is =
 pub table_map_more : {X Y : Type 0} (h : Y → X) (f : ℕ → X) (xs ys : List Y) (n : ℕ) (y : Y) → map h xs ≡ map f (range_with_len 0 n) → ys ≡ xs ++ y ∷ [] → h y ≡ f n
     → map h ys ≡ map f (range_with_len 0 (n + 1))
 table_map_more h f xs ys n y so_far pushed is = table_more f (map h xs) (map h ys) n (h y) so_far (ap (map h) pushed ∙ map-append h xs (y ∷ [])) is
-
--- an item is in one of the lists
-pub list_any-flat_map : {X A : Type 0} (p : A → Bool) (f : X → List A) (xs : List X) → list_any p (flat_map f xs) ≡ list_any (λ x. list_any p (f x)) xs
-list_any-flat_map p f [] = refl
-list_any-flat_map p f (x ∷ xs) = list_any-append p (f x) (flat_map f xs) ∙ ap (λ b. list_any p (f x) || b) (list_any-flat_map p f xs)
 
 -- one item more of a list that passes a test, or fails it
 pub filter_more : {X : Type 0} (p : X → Bool) (xs : List X) (i : ℕ) (x : X) → i < length xs → x ≡ get_or xs i x

@@ -1,6 +1,7 @@
 pub mod AboveLaws
 pub mod BoolFacts
 pub mod BuiltLaws
+pub mod ByNameLaws
 pub mod DistinctNames
 pub mod Filling
 pub mod Finished

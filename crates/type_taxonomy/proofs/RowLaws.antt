@@ -1,13 +1,14 @@
 -- What a type has: its parent's entries narrowed, and then what is new.
-use Rattle.std.proofs.Common.{◌≡◌, ℕ, ◌+◌, ◌<◌, Bool, true, false, cond, List, [], ◌∷◌, ◌++◌, length, get_or, take, map, sym, ap, ◌∙◌, refl, Option, Some, append_assoc}
-use Rattle.std.specs.Option.{option_map_or}
+use Rattle.std.proofs.Common.{◌≡◌, ℕ, ◌+◌, ◌<◌, Bool, true, false, cond, List, [], ◌∷◌, ◌++◌, length, get_or, take, map, sym, ap, ◌∙◌, refl, Option, Some, None, append_assoc}
+use Rattle.std.specs.Option.{option_map, option_map_or}
 use Rattle.std.specs.List.{find}
 use Rattle.std.specs.Cmp.Lexicographic.{same_text as text_of_same}
 use Rattle.std.proofs.lemmas.List.{map-append, take_more}
 use Rattle.prod_model.specs.declared.model.TypeDecl.{TypeDecl}
 use Rattle.prod_model.specs.Names.{same_text}
-use Rattle.prod_model.specs.Taxonomy.{Named, kept_entry}
+use Rattle.prod_model.specs.Taxonomy.{kept_entry}
 use Rattle.type_taxonomy.specs.declared.entry.Entry.{Entry}
+use Rattle.type_taxonomy.specs.ByName.{found_at}
 use Rattle.type_taxonomy.specs.Entries.{named, placed, placed_again, narrowed_by}
 
 cond-passes : {X : Type 0} (p : X → Bool) (b : Bool) (y x : X) (rest : Option X) → p y ≡ b → (rest ≡ Some x → p x ≡ true) → cond b (Some y) rest ≡ Some x → p x ≡ true
@@ -22,15 +23,23 @@ find-passes p [] x found = cc
 find-passes p (y ∷ ys) x found = cond-passes p (p y) y x (find p ys) refl (find-passes p ys x) found
 
 module _ {D : Type 0} (declared : TypeDecl → List D) (name_of : D → List ℕ) where
-  -- an entry under the name of the last declaration, which is its own name
-  pub named-narrowed : (ds : List D) (e after : Entry D) → find (λ d. same_text (name_of d) (name_of e.declared.now)) ds ≡ Some after.declared.now → after.id ≡ e.id
+  narrowed_by_found : (ds : List D) (e after : Entry D) (found : Option D) → find (λ d. same_text (name_of d) (name_of e.declared.now)) ds ≡ found → after.id ≡ e.id
+      → after.declared.now ≡ option_map_or (λ (f : ℕ × D). f.1) (option_map (λ d. (1, d)) found) e.declared.now
+      → named name_of after ≡ option_map_or (λ d. record { name = name_of e.declared.now; what = (e.id, d) }) found (named name_of e)
+  narrowed_by_found ds e after None found is_id is =
+      ap (λ d. record { name = name_of d; what = (after.id, d) }) is ∙ ap (λ k. record { name = name_of e.declared.now; what = (k, e.declared.now) }) is_id
+  narrowed_by_found ds e after (Some d) found is_id is =
+      let same : name_of d ≡ name_of e.declared.now = text_of_same _ _ (sym (find-passes (λ x. same_text (name_of x) (name_of e.declared.now)) ds d found)) in
+      ap (λ x. record { name = name_of x; what = (after.id, x) }) is ∙ ap (λ n. record { name = n; what = (after.id, d) }) same
+      ∙ ap (λ k. record { name = name_of e.declared.now; what = (k, d) }) is_id
+
+  -- an entry with the declaration that is found under its name, if there is one, is the entry narrowed
+  pub named-narrowed : (ds : List D) (e after : Entry D) (found : Option (ℕ × D)) → after.id ≡ e.id → after.declared.now ≡ option_map_or (λ f. f.1) found e.declared.now
+      → found ≡ found_at name_of 1 ds (name_of e.declared.now)
       → named name_of after ≡ kept_entry declared name_of (placed declared name_of) (placed_again declared name_of) ds (named name_of e)
-  named-narrowed ds e after found is_id =
-      let same : name_of after.declared.now ≡ name_of e.declared.now =
-      text_of_same _ _ (sym (find-passes (λ d. same_text (name_of d) (name_of e.declared.now)) ds after.declared.now found)) in
-      let narrow : Option D → Named (ℕ × D) = λ o. option_map_or (λ d. record { name = name_of e.declared.now; what = (e.id, d) }) o (named name_of e) in
-      ap (λ n. record { name = n; what = (after.id, after.declared.now) }) same
-      ∙ ap (λ k. record { name = name_of e.declared.now; what = (k, after.declared.now) }) is_id ∙ ap narrow (sym found)
+  named-narrowed ds e after found is_id is is_found =
+      narrowed_by_found ds e after (find (λ d. same_text (name_of d) (name_of e.declared.now)) ds) refl is_id
+      (is ∙ ap (λ o. option_map_or (λ (f : ℕ × D). f.1) o e.declared.now) is_found)
 
   -- one inherited entry more
   pub narrowed_more : (ds : List D) (inherited : List (Entry D)) (i : ℕ) (row after : List (Entry D)) (e kept : Entry D) → i < length inherited

@@ -10,7 +10,8 @@ use Rattle.prod_model.specs.declared.model.PortDecl.{PortDecl}
 use Rattle.prod_model.specs.Forest.{line as line_of, ancestors, type_numbers, is_a}
 use Rattle.prod_model.specs.Valid.{narrows_domain, same_kind}
 use Rattle.type_taxonomy.specs.declared.above.Above.{Above}
-use Rattle.type_taxonomy.specs.Above.{found, found_along, passes_nearest, IsAbove, attribute_passes, port_passes}
+use Rattle.type_taxonomy.specs.ByName.{found}
+use Rattle.type_taxonomy.specs.Above.{found_along, passes_nearest, IsAbove, attribute_passes, port_passes}
 use Rattle.type_taxonomy.specs.Built.{attribute_narrows_at, port_narrows_at, NarrowsAll}
 use Rattle.type_taxonomy.specs.Faults.{Has}
 use Rattle.type_taxonomy.specs.Firsts.{IsFirstFailing}

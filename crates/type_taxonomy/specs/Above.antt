@@ -1,33 +1,21 @@
 -- What is declared above a type, by name.
 use Rattle.std.specs.Prelude.{◌≡◌, ℕ, suc, Bool, false, not, ◌&&◌, nat_lt, nat_le, is_none, List, [], ◌∷◌, length, Option, None}
-use Rattle.std.specs.Borrow.{Bor}
-use Rattle.std.specs.Option.{option_map, option_map_or, option_or}
-use Rattle.std.specs.List.{find}
-use Rattle.indexmap.specs.IndexMap.{IndexMap, get_by}
+use Rattle.std.specs.Option.{option_map_or, option_or}
 use Rattle.prod_model.specs.declared.model.Model.{Model}
 use Rattle.prod_model.specs.declared.model.TypeDecl.{TypeDecl}
 use Rattle.prod_model.specs.declared.model.AttrDecl.{AttrDecl}
 use Rattle.prod_model.specs.declared.model.PortDecl.{PortDecl}
 use Rattle.prod_model.specs.Forest.{is_a}
-use Rattle.prod_model.specs.Names.{same_text}
 use Rattle.prod_model.specs.Taxonomy.{declarations_of}
 use Rattle.prod_model.specs.Valid.{narrows_domain, same_kind}
-use Rattle.type_taxonomy.specs.declared.above.Found.{Found}
 use Rattle.type_taxonomy.specs.declared.above.Above.{Above}
-
--- the declaration that the map has under the name, with its height
-abbrev pub found : {D S : Type 0} → IndexMap (Bor (List ℕ)) (Found D) S → List ℕ → Option (ℕ × D)
-found m name = option_map (λ f. (f.height, f.declared.now)) (get_by (λ k. same_text name k.now) m)
+use Rattle.type_taxonomy.specs.ByName.{found, found_at}
 
 module _ {D : Type 0} (declared : TypeDecl → List D) (name_of : D → List ℕ) where
-  -- the first of these declarations that has the name, with this height
-  abbrev pub found_at : ℕ → List D → List ℕ → Option (ℕ × D)
-  found_at height ds name = option_map (λ d. (height, d)) (find (λ d. same_text (name_of d) name) ds)
-
   -- The nearest declaration of the name along a line. The height of a declaration is the number of types from its own upwards.
   abbrev pub found_along : List TypeDecl → List ℕ → List ℕ → Option (ℕ × D)
   found_along types [] name = None
-  found_along types (t ∷ line) name = option_or (found_at (suc (length line)) (declarations_of declared name_of types t) name) (found_along types line name)
+  found_along types (t ∷ line) name = option_or (found_at name_of (suc (length line)) (declarations_of declared name_of types t) name) (found_along types line name)
 
 -- neither sort has the name; or the nearest declaration of it is of the first sort, and passes the test
 abbrev pub passes_nearest : {D E : Type 0} → (D → Bool) → Option (ℕ × D) → Option (ℕ × E) → Bool

@@ -1,5 +1,6 @@
 pub mod Above
 pub mod Built
+pub mod ByName
 pub mod Entries
 pub mod Faults
 pub mod Firsts

@@ -1,59 +1,20 @@
 //! What the ancestors of a type declare, by name.
-ghost use Rattle.std.specs.Prelude.{◌≡◌, ℕ, List, length, drop, cond, Some, IfOk, OnOk};
-ghost use Rattle.std.specs.Option.{option_or};
-ghost use Rattle.prod_model.specs.Names.{same_text};
+ghost use Rattle.std.specs.Prelude.{◌≡◌, ℕ, List, drop, IfOk};
 ghost use Rattle.prod_model.specs.Taxonomy.{declarations_of};
-ghost use Rattle.type_taxonomy.specs.Above.{found, found_at, found_along, IsAbove};
+ghost use Rattle.type_taxonomy.specs.Above.{found_along, IsAbove};
+ghost use Rattle.type_taxonomy.specs.ByName.{found};
 
+use crate::by_name::{Found, put_all};
 use crate::declaration::Declaration;
 use indexmap::IndexMap;
 use prod_model::{AttrDecl, PortDecl, TypeDecl};
 use std::alloc::{AllocError, Global};
-
-/// A declaration, and the number of types on its line from its own upwards.
-#[derive(Drop)]
-pub(crate) struct Found<'a, D> {
-    pub height: usize,
-    pub declared: &'a D,
-}
 
 /// The nearest declarations above a type, by name.
 #[derive(Drop)]
 pub(crate) struct Above<'a> {
     pub attributes: IndexMap<&'a [u8], Found<'a, AttrDecl>>,
     pub ports: IndexMap<&'a [u8], Found<'a, PortDecl>>,
-}
-
-/// Puts the declaration under its name, in place of what was there.
-fn put<'a, D: Declaration>(
-    names: &mut IndexMap<&'a [u8], Found<'a, D>>,
-    height: usize,
-    declared: &'a D,
-) -> Result<(), AllocError>
-    ensures { OnOk result ((q : List ℕ) → found names.new q
-        ≡ cond (same_text (D.name_of declared.now) q) (Some (height, declared.now)) (found names.old q)) }
-{
-    let name = declared.name().bytes();
-    let Ok(_) = names.insert(name, Found { height, declared }) else {
-        return Err(AllocError);
-    };
-    Ok(())
-}
-
-/// Puts declarations under their names, from the last, so that the first of a name stays.
-fn put_all<'a, D: Declaration>(
-    names: &mut IndexMap<&'a [u8], Found<'a, D>>,
-    height: usize,
-    declared: &'a [D],
-) -> Result<(), AllocError>
-    ensures { OnOk result ((q : List ℕ) → found names.new q ≡ option_or (found_at D.declared D.name_of height declared.now q) (found names.old q)) }
-{
-    let mut left = declared.len();
-    while left > 0 {
-        left -= 1;
-        put(names, height, &declared[left])?;
-    }
-    Ok(())
 }
 
 /// The declarations of a type.
@@ -87,7 +48,21 @@ fn names_along<'a, D: Declaration>(
     Ok(names)
 }
 
-/// What is declared above a type with this line. It takes one step a declaration of an ancestor.
+/// The nearest declarations above a type with this line. It takes one step a declaration of an ancestor.
+pub(crate) fn names_above<'a, D: Declaration>(
+    alloc: Global,
+    types: &'a [TypeDecl],
+    line: &[u32],
+) -> Result<IndexMap<&'a [u8], Found<'a, D>>, AllocError>
+    ensures { IfOk result (λ names. (q : List ℕ) → found names q ≡ found_along D.declared D.name_of types.now (drop 1 line.now) q) }
+{
+    match line.split_first() {
+        None => names_along(alloc, types, line),
+        Some((_, ancestors)) => names_along(alloc, types, ancestors),
+    }
+}
+
+/// What is declared above a type with this line, of both sorts.
 pub(crate) fn declared_above<'a>(
     alloc: Global,
     types: &'a [TypeDecl],
@@ -95,11 +70,7 @@ pub(crate) fn declared_above<'a>(
 ) -> Result<Above<'a>, AllocError>
     ensures { IfOk result (IsAbove types.now (drop 1 line.now)) }
 {
-    let ancestors = match line.split_first() {
-        None => line,
-        Some((_, ancestors)) => ancestors,
-    };
-    let attributes = names_along(alloc, types, ancestors)?;
-    let ports = names_along(alloc, types, ancestors)?;
+    let attributes = names_above(alloc, types, line)?;
+    let ports = names_above(alloc, types, line)?;
     Ok(Above { attributes, ports })
 }

@@ -1,5 +1,5 @@
 //! Whether types are their own ancestors.
-ghost use Rattle.std.specs.Prelude.{◌≡◌, ◌<◌, ◌==◌, ◌^◌, not, length, map, drop};
+ghost use Rattle.std.specs.Prelude.{◌≡◌, ◌<◌, ◌==◌, ◌^◌, not, length, drop};
 ghost use Rattle.std.specs.List.{list_any};
 ghost use Rattle.prod_model.specs.Forest.{is_in_circle};
 ghost use Rattle.type_taxonomy.specs.Entries.{AreLines};

@@ -1,5 +1,5 @@
 //! What is known of the types of a model, once they are a forest.
-ghost use Rattle.std.specs.Prelude.{◌≡◌, ◌<◌, ◌^◌, length, map, sum_by, IfOk};
+ghost use Rattle.std.specs.Prelude.{◌≡◌, ◌<◌, ◌^◌, length, sum_by, IfOk};
 ghost use Rattle.type_taxonomy.specs.Entries.{AreLines};
 ghost use Rattle.type_taxonomy.specs.Built.{IsBuilt};
 ghost use Rattle.type_taxonomy.specs.TypeForest.{IsForest};
@@ -25,7 +25,6 @@ pub(crate) fn forest_of(
     model: &Model,
     lines: Items<Items<u32>>,
 ) -> Result<Forest, AllocError>
-    requires few { length model.now.types < 1000 }
     requires few_attributes { sum_by (λ d. length d.attributes) model.now.types < 2 ^ 32 }
     requires few_ports { sum_by (λ d. length d.ports) model.now.types < 2 ^ 32 }
     requires forest { IsForest model.now.types }

@@ -2,6 +2,7 @@
 #![tactic(auto)]
 
 mod above;
+mod by_name;
 mod circle;
 mod declaration;
 mod entry;

@@ -1,5 +1,5 @@
 //! The line of each type: the type, its parent, that one's parent and so on.
-ghost use Rattle.std.specs.Prelude.{◌≡◌, ◌==◌, ◌<◌, ◌+◌, length, map, IfOk, drop};
+ghost use Rattle.std.specs.Prelude.{◌≡◌, ◌≢◌, ◌==◌, ◌<◌, ◌≤◌, ◌+◌, length, map, IfOk, All, Contains};
 ghost use Rattle.std.specs.List.{list_any};
 ghost use Rattle.prod_model.specs.Forest.{line};
 ghost use Rattle.type_taxonomy.specs.Entries.{AreLines};
@@ -37,6 +37,14 @@ fn line_of(alloc: Global, types: &[TypeDecl], t: u32) -> Result<Items<u32>, Allo
         next = d.parent;
     }
     Ok(members)
+}
+
+/// The number of types on the longest line.
+pub(crate) fn depth(lines: &[Items<u32>]) -> usize
+    ensures longest { All (λ line. length line ≤ result) lines.now }
+    ensures reached { result ≢ 0 → Contains (map length lines.now) result }
+{
+    lines.iter().map(|line| line.len()).max().unwrap_or(0)
 }
 
 /// Whether the number is one of the line.

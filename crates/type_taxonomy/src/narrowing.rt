@@ -1,15 +1,16 @@
 //! Whether a declaration narrows the nearest one of its name.
-ghost use Rattle.std.specs.Prelude.{◌≡◌, nat_lt, nat_le, ◌&&◌, is_none, false};
-ghost use Rattle.std.specs.Option.{option_map, option_map_or};
+ghost use Rattle.std.specs.Prelude.{◌≡◌, nat_lt, nat_le, ◌&&◌, false};
+ghost use Rattle.std.specs.Option.{option_map_or};
 ghost use Rattle.std.specs.List.{list_any, list_all};
 ghost use Rattle.prod_model.specs.Forest.{is_a};
 ghost use Rattle.prod_model.specs.Names.{same_text};
 ghost use Rattle.prod_model.specs.Valid.{narrows_domain, same_kind};
-ghost use Rattle.type_taxonomy.specs.Above.{found, attribute_passes, port_passes};
+ghost use Rattle.type_taxonomy.specs.Above.{attribute_passes, port_passes};
 ghost use Rattle.type_taxonomy.specs.Built.{IsBuilt};
+ghost use Rattle.type_taxonomy.specs.ByName.{found};
 
-use crate::above::{Above, Found};
-use crate::declaration::same_name;
+use crate::above::Above;
+use crate::by_name::{Found, is_free, look_up};
 use crate::forest::Forest;
 use crate::line::is_in;
 use indexmap::IndexMap;
@@ -18,9 +19,11 @@ use prod_model::{AttrDecl, Domain, Name, PortDecl, PortKind};
 fn has_word(words: &[Name], word: &Name) -> bool
     ensures { result ≡ list_any (same_text word.now) words.now }
 {
-    words.iter().any(|w| same_name(word, w))
+    words.iter().any(|w| word.bytes() == w.bytes())
 }
 
+/// Whether all of some words are among the words. Each is compared with one after another, which in a formed model
+/// takes 64 times 64 comparisons at most.
 fn has_words(words: &[Name], some: &[Name]) -> bool
     ensures { result ≡ list_all (λ w. list_any (same_text w) words.now) some.now }
 {
@@ -73,28 +76,11 @@ fn narrows_port(forest: &Forest, port: &PortDecl, wide: &PortDecl) -> bool
         && is_a(forest, port.target, wide.target)
 }
 
-/// The nearest declaration of the name above, with its height.
-fn find_above<'m, 'a, D>(
-    names: &'m IndexMap<&'a [u8], Found<'a, D>>,
-    name: &Name,
-) -> Option<&'m Found<'a, D>>
-    ensures { option_map (λ f. (f.now.height, f.now.declared.now)) result ≡ found names.now name.now }
-{
-    names.get(name.bytes())
-}
-
-/// Whether the name is not declared above.
-fn is_free<D>(names: &IndexMap<&[u8], Found<D>>, name: &Name) -> bool
-    ensures { result ≡ is_none (found names.now name.now) }
-{
-    find_above(names, name).is_none()
-}
-
 /// Whether the name is declared nearer than at this height.
 fn is_nearer<D>(names: &IndexMap<&[u8], Found<D>>, name: &Name, height: usize) -> bool
     ensures { result ≡ option_map_or (λ f. nat_lt height f.0) (found names.now name.now) false }
 {
-    match find_above(names, name) {
+    match look_up(names, name) {
         Some(nearest) => height < nearest.height,
         None => false,
     }
@@ -107,7 +93,7 @@ pub(crate) fn attribute_narrows(above: &Above, attribute: &AttrDecl) -> bool
     ensures { result ≡ attribute_passes above.now attribute.now }
 {
     let name = &attribute.name;
-    match find_above(&above.attributes, name) {
+    match look_up(&above.attributes, name) {
         Some(wide) => {
             narrows_domain(&attribute.domain, &wide.declared.domain)
                 && !is_nearer(&above.ports, name, wide.height)
@@ -123,7 +109,7 @@ pub(crate) fn port_narrows(forest: &Forest, above: &Above, port: &PortDecl) -> b
     ensures { result ≡ port_passes forest.now.model.now above.now port.now }
 {
     let name = &port.name;
-    match find_above(&above.ports, name) {
+    match look_up(&above.ports, name) {
         Some(wide) => {
             narrows_port(forest, port, wide.declared)
                 && !is_nearer(&above.attributes, name, wide.height)

@@ -1,16 +1,17 @@
 //! What is new in each type.
-ghost use Rattle.std.specs.Prelude.{◌≡◌, ◌<◌, ◌≤◌, ◌+◌, ◌^◌, length, map, sum_by, drop, IfOk};
-ghost use Rattle.std.specs.List.{filter, list_any};
-ghost use Rattle.prod_model.specs.Names.{same_text};
-ghost use Rattle.prod_model.specs.Taxonomy.{declarations_of};
+ghost use Rattle.std.specs.Prelude.{◌≡◌, ◌<◌, ◌+◌, ◌^◌, length, map, sum_by, drop, IfOk};
+ghost use Rattle.std.specs.List.{filter};
 ghost use Rattle.type_taxonomy.specs.Entries.{named, is_new_among, numbered, AreLines, AreNew};
 
-use crate::declaration::{Declaration, declares};
+use crate::above::names_above;
+use crate::by_name::is_free;
+use crate::declaration::Declaration;
 use crate::entry::Entry;
-use prod_model::{Items, Name, TypeDecl};
+use prod_model::{Items, TypeDecl};
 use std::alloc::{AllocError, Global};
 
-/// What is new in each type, numbered in file order. Each declaration is compared with those of its type's ancestors.
+/// What is new in each type, numbered in file order. For each type the declarations of its ancestors are gone over
+/// once, and each of its own takes a look-up of its name.
 pub(crate) fn all_new<'a, D: Declaration>(
     alloc: Global,
     types: &'a [TypeDecl],
@@ -30,6 +31,7 @@ pub(crate) fn all_new<'a, D: Declaration>(
     Ok(rows)
 }
 
+/// What is new in a type with this line, from this id on.
 fn new_in<'a, D: Declaration>(
     alloc: Global,
     types: &[TypeDecl],
@@ -41,25 +43,13 @@ fn new_in<'a, D: Declaration>(
     ensures { IfOk result (λ row. map (named D.name_of) row
         ≡ numbered D.declared D.name_of first_id (filter (is_new_among D.declared D.name_of types.now (drop 1 line.now)) (D.declared kind.now))) }
 {
+    let above = names_above::<D>(alloc, types, line)?;
     let mut row = Items::new(alloc);
     for declared in D::declared(kind) {
-        if is_new(types, line, declared) {
+        if is_free(&above, declared.name()) {
             let id = first_id + row.len() as u32;
             row.push(Entry { id, declared })?;
         }
     }
     Ok(row)
-}
-
-fn is_new<D: Declaration>(types: &[TypeDecl], line: &[u32], declared: &D) -> bool
-    ensures { result ≡ is_new_among D.declared D.name_of types.now (drop 1 line.now) declared.now }
-{
-    !is_declared_above::<D>(types, line, declared.name())
-}
-
-/// Whether a type after the first one of the line declares the name.
-fn is_declared_above<D: Declaration>(types: &[TypeDecl], line: &[u32], name: &Name) -> bool
-    ensures { result ≡ list_any (λ t. list_any (λ e. same_text name.now (D.name_of e)) (declarations_of D.declared D.name_of types.now t)) (drop 1 line.now) }
-{
-    line.iter().skip(1).any(|t| declares::<D>(types, *t, name))
 }

@@ -1,34 +1,32 @@
 //! What each type has, inherited entries included.
-ghost use Rattle.std.specs.Prelude.{◌≡◌, ◌<◌, ◌≤◌, ◌+◌, ◌++◌, [], length, map, slice_index_or, option_copied, IfSome, IfOk, OnOk};
+ghost use Rattle.std.specs.Prelude.{◌≡◌, ◌<◌, ◌+◌, ◌++◌, [], length, map, slice_index_or, IfSome, IfOk, OnOk};
 ghost use Rattle.std.specs.Option.{option_map_or};
-ghost use Rattle.std.specs.List.{find};
 ghost use Rattle.prod_model.specs.Forest.{line};
-ghost use Rattle.prod_model.specs.Names.{same_text};
-ghost use Rattle.prod_model.specs.Taxonomy.{kept_entry};
+ghost use Rattle.type_taxonomy.specs.ByName.{found};
+ghost use Rattle.type_taxonomy.specs.Entries.{named, narrowed_by, AreLines, AreNew, AreRows};
 ghost use Rattle.type_taxonomy.specs.TypeForest.{IsForest, HasRows};
-ghost use Rattle.type_taxonomy.specs.Entries.{named, placed, placed_again, narrowed_by, AreLines, AreNew, AreRows};
 
-use crate::declaration::{Declaration, same_name};
+use crate::by_name::{Found, look_up, names_of};
+use crate::declaration::Declaration;
 use crate::entry::Entry;
-use prod_model::{Items, Name, TypeDecl};
+use crate::line::depth;
+use indexmap::IndexMap;
+use prod_model::{Items, TypeDecl};
 use std::alloc::{AllocError, Global};
 
-/// The last declaration of an entry's name, if the type declares it.
-fn find_declared<'a, D: Declaration>(declared: &'a [D], name: &Name) -> Option<&'a D>
-    ensures { option_copied result ≡ find (λ d. same_text (D.name_of d) name.now) declared.now }
-{
-    declared.iter().find(|d| same_name(d.name(), name))
-}
-
 /// An inherited entry, narrowed where one of the declarations has its name.
-fn kept<'a, D: Declaration>(declared: &'a [D], inherited: &Entry<'a, D>) -> Entry<'a, D>
-    ensures { named D.name_of result
-        ≡ kept_entry D.declared D.name_of (placed D.declared D.name_of) (placed_again D.declared D.name_of) declared.now (named D.name_of inherited.now) }
+fn kept<'a, D: Declaration>(
+    declared: &IndexMap<&'a [u8], Found<'a, D>>,
+    inherited: &Entry<'a, D>,
+) -> Entry<'a, D>
+    ensures id { result.id ≡ inherited.now.id }
+    ensures declared { result.declared.now
+        ≡ option_map_or (λ f. f.1) (found declared.now (D.name_of inherited.now.declared.now)) inherited.now.declared.now }
 {
-    match find_declared(declared, inherited.declared.name()) {
-        Some(declared) => Entry {
+    match look_up(declared, inherited.declared.name()) {
+        Some(found) => Entry {
             id: inherited.id,
-            declared,
+            declared: found.declared,
         },
         None => Entry {
             id: inherited.id,
@@ -37,7 +35,8 @@ fn kept<'a, D: Declaration>(declared: &'a [D], inherited: &Entry<'a, D>) -> Entr
     }
 }
 
-/// What is inherited, narrowed. Each entry is compared with the declarations of the type.
+/// What is inherited, narrowed. The declarations of the type are gone over once, and each entry takes a look-up of its
+/// name.
 fn narrowed<'a, D: Declaration>(
     alloc: Global,
     kind: &'a TypeDecl,
@@ -46,9 +45,10 @@ fn narrowed<'a, D: Declaration>(
     ensures { IfOk result (λ row. map (named D.name_of) row
         ≡ narrowed_by D.declared D.name_of (D.declared kind.now) (map (named D.name_of) inherited.now)) }
 {
+    let declared = names_of(alloc, D::declared(kind))?;
     let mut row = Items::new(alloc);
     for e in inherited {
-        row.push(kept(D::declared(kind), e))?;
+        row.push(kept(&declared, e))?;
     }
     Ok(row)
 }
@@ -121,22 +121,22 @@ fn empty_rows<'a, D>(alloc: Global, number: usize) -> Result<Items<Items<Entry<'
     Ok(rows)
 }
 
-/// What each type has. A type comes after its parent, whose line is shorter by one, so each row is made once. The
-/// types are gone over once for each length of a line, and each entry is compared with the declarations of its type.
+/// What each type has. A type comes after its parent, whose line is shorter by one, so each row is made once: it takes
+/// one step for each declaration of its type and a look-up for each entry that is inherited. To find the types of each
+/// length of a line, all are gone over as often as the forest is deep.
 pub(crate) fn all_rows<'a, D: Declaration>(
     alloc: Global,
     types: &'a [TypeDecl],
     lines: &[Items<u32>],
     new: &[Items<Entry<'a, D>>],
 ) -> Result<Items<Items<Entry<'a, D>>>, AllocError>
-    requires few { length types.now < 1000 }
     requires forest { IsForest types.now }
     requires lines { AreLines types.now lines.now }
     requires new { AreNew D.declared D.name_of types.now new.now }
     ensures { IfOk result (AreRows D.declared D.name_of types.now) }
 {
     let mut rows = empty_rows(alloc, types.len())?;
-    for members in 0..types.len() + 1 {
+    for members in 0..=depth(lines) {
         fill(alloc, types, lines, new, members, &mut rows)?;
     }
     Ok(rows)

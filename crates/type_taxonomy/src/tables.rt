@@ -1,5 +1,5 @@
 //! The tables, from what each type has.
-ghost use Rattle.std.specs.Prelude.{◌≡◌, length, map, IfOk};
+ghost use Rattle.std.specs.Prelude.{◌≡◌, map, IfOk};
 ghost use Rattle.prod_model.specs.Taxonomy.{tables_of, made_attribute, made_port};
 ghost use Rattle.type_taxonomy.specs.Built.{IsBuilt};
 

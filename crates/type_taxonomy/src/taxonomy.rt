@@ -21,10 +21,11 @@ use std::alloc::Global;
 ///
 /// A declaration widens where it is no narrowing of that of the nearest ancestor that declares its name.
 ///
-/// The line of each type is made once, and so is its row of the tables, after its parent's. Each declaration is
-/// compared with those of the type's ancestors, to tell whether it is new, and each row with the declarations of its
-/// type; the nearest of a name is looked up, once those above the type are gone over. The types are gone over once
-/// for each length of a line.
+/// Names are looked up, and not compared one by one. For each type the declarations of its ancestors are gone over
+/// twice, to tell which of its own are new and which of them widen, and each of its own takes three look-ups of its
+/// name. Its row of the tables is made once, after its parent's, and takes a look-up for each inherited entry. So the
+/// whole is linear in the types and what they declare, inherited entries included, times the depth of the forest. Words
+/// are compared with those that they narrow, 64 with 64 at most.
 pub fn build(alloc: Global, model: &Model) -> Result<Tables, TaxFault>
     requires { IsFormed model.now }
     ensures tables { IfOk result (λ tables. tables ≡ tables_of model.now) }

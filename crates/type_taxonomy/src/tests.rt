@@ -68,9 +68,9 @@ fn finds_circles(rt: HostRuntime) -> Result<(), Fail> {
 }
 
 #[test]
-fn inherits_and_narrows(rt: HostRuntime) -> Result<(), Fail> {
+fn inherits_and_narrows_attributes(rt: HostRuntime) -> Result<(), Fail> {
     let alloc = rt.alloc();
-    let three = [
+    let three_levels = [
         sized(None, &[(b"size", Values::Range(1, 9))]),
         sized(
             Some(0),
@@ -86,7 +86,7 @@ fn inherits_and_narrows(rt: HostRuntime) -> Result<(), Fail> {
         ),
     ];
     assert_eq!(rt;
-        built(alloc, &three)?.as_str(),
+        built(alloc, &three_levels)?.as_str(),
         "( 0:1..9 )( 0:1..9 1:red|blue|grey| )( 0:2..5 1:grey|red| 2:0..1 )( )( )( )"
     );
     let child_first = [
@@ -103,6 +103,12 @@ fn inherits_and_narrows(rt: HostRuntime) -> Result<(), Fail> {
         built(alloc, &child_first)?.as_str(),
         "( 1:3..4 0:0..1 )( 1:1..9 )( )( )"
     );
+    Ok(())
+}
+
+#[test]
+fn keeps_trees_apart(rt: HostRuntime) -> Result<(), Fail> {
+    let alloc = rt.alloc();
     let two_trees = [
         sized(None, &[(b"size", Values::Range(1, 2))]),
         sized(None, &[(b"size", Values::Range(5, 6))]),
@@ -112,7 +118,13 @@ fn inherits_and_narrows(rt: HostRuntime) -> Result<(), Fail> {
         built(alloc, &two_trees)?.as_str(),
         "( 0:1..2 )( 1:5..6 )( 1:5..6 2:0..0 )( )( )( )"
     );
-    let ports = [
+    Ok(())
+}
+
+#[test]
+fn inherits_and_narrows_ports(rt: HostRuntime) -> Result<(), Fail> {
+    let alloc = rt.alloc();
+    let kinds = [
         linked(None, &[(b"door", PortKind::Part, 1, 0, 4)]),
         plain(None),
         linked(
@@ -125,40 +137,26 @@ fn inherits_and_narrows(rt: HostRuntime) -> Result<(), Fail> {
         plain(Some(1)),
     ];
     assert_eq!(rt;
-        built(alloc, &ports)?.as_str(),
+        built(alloc, &kinds)?.as_str(),
         "( )( )( )( )( 0:part 1 0..4 )( )( 0:part 3 1..2 1:shared 0 0..1 )( )"
     );
     Ok(())
 }
 
 #[test]
-fn refuses_wider_attributes(rt: HostRuntime) -> Result<(), Fail> {
+fn refuses_wider_ranges(rt: HostRuntime) -> Result<(), Fail> {
     let alloc = rt.alloc();
     let wide = "Widening { kind: 1, port: false, place: 0 }";
     for (values, want) in [
         (Values::Range(0, 5), wide),
         (Values::Range(5, 10), wide),
-        (Values::Range(1, 9), "( 0:1..9 )( 0:1..9 )( )( )"),
         (Values::Words(&[b"red"]), wide),
+        (Values::Range(1, 9), "( 0:1..9 )( 0:1..9 )( )( )"),
+        (Values::Range(4, 4), "( 0:1..9 )( 0:4..4 )( )( )"),
     ] {
         let again: [(&[u8], Values); 1] = [(b"size", values)];
         let kinds = [
             sized(None, &[(b"size", Values::Range(1, 9))]),
-            sized(Some(0), &again),
-        ];
-        assert_eq!(rt; built(alloc, &kinds)?.as_str(), want);
-    }
-    for (values, want) in [
-        (Values::Words(&[b"blue", b"green"]), wide),
-        (Values::Range(0, 1), wide),
-        (
-            Values::Words(&[b"blue"]),
-            "( 0:red|blue| )( 0:blue| )( )( )",
-        ),
-    ] {
-        let again: [(&[u8], Values); 1] = [(b"colour", values)];
-        let kinds = [
-            sized(None, &[(b"colour", Values::Words(&[b"red", b"blue"]))]),
             sized(Some(0), &again),
         ];
         assert_eq!(rt; built(alloc, &kinds)?.as_str(), want);
@@ -170,6 +168,32 @@ fn refuses_wider_attributes(rt: HostRuntime) -> Result<(), Fail> {
         sized(None, &[(b"size", Values::Range(1, 8))]),
     ];
     assert_eq!(rt; built(alloc, &chain)?.as_str(), wide);
+    Ok(())
+}
+
+#[test]
+fn refuses_wider_words(rt: HostRuntime) -> Result<(), Fail> {
+    let alloc = rt.alloc();
+    let wide = "Widening { kind: 1, port: false, place: 0 }";
+    for (values, want) in [
+        (Values::Words(&[b"blue", b"green"]), wide),
+        (Values::Range(0, 1), wide),
+        (
+            Values::Words(&[b"blue"]),
+            "( 0:red|blue| )( 0:blue| )( )( )",
+        ),
+        (
+            Values::Words(&[b"blue", b"red"]),
+            "( 0:red|blue| )( 0:blue|red| )( )( )",
+        ),
+    ] {
+        let again: [(&[u8], Values); 1] = [(b"colour", values)];
+        let kinds = [
+            sized(None, &[(b"colour", Values::Words(&[b"red", b"blue"]))]),
+            sized(Some(0), &again),
+        ];
+        assert_eq!(rt; built(alloc, &kinds)?.as_str(), want);
+    }
     Ok(())
 }
 
@@ -216,20 +240,19 @@ fn compares_with_the_nearest(rt: HostRuntime) -> Result<(), Fail> {
 fn refuses_wider_ports(rt: HostRuntime) -> Result<(), Fail> {
     let alloc = rt.alloc();
     let wide = "Widening { kind: 3, port: true, place: 0 }";
+    let narrowed =
+        "( )( )( )( )( )( 0:part 1 1..3 )( 0:part 1 1..3 )( 0:part 1 1..3 )( 0:part 1 2..2 )( 0:part 1 1..3 )";
+    let aimed =
+        "( )( )( )( )( )( 0:part 1 1..3 )( 0:part 1 1..3 )( 0:part 1 1..3 )( 0:part 4 1..3 )( 0:part 1 1..3 )";
     for (kind, target, low, high, want) in [
         (PortKind::Shared, 1, 1, 3, wide),
         (PortKind::Part, 1, 0, 3, wide),
         (PortKind::Part, 1, 1, 4, wide),
-        // A sibling, the parent, and the target itself.
+        (PortKind::Part, 1, 2, 2, narrowed),
+        // A sibling of the target, its parent, and a type under it.
         (PortKind::Part, 2, 1, 3, wide),
         (PortKind::Part, 0, 1, 3, wide),
-        (
-            PortKind::Part,
-            1,
-            2,
-            2,
-            "( )( )( )( )( 0:part 1 1..3 )( 0:part 1 1..3 )( 0:part 1 1..3 )( 0:part 1 2..2 )",
-        ),
+        (PortKind::Part, 4, 1, 3, aimed),
     ] {
         let again: [(&[u8], PortKind, u32, u32, u32); 1] = [(b"door", kind, target, low, high)];
         let kinds = [
@@ -237,9 +260,16 @@ fn refuses_wider_ports(rt: HostRuntime) -> Result<(), Fail> {
             plain(Some(0)),
             plain(Some(0)),
             linked(Some(0), &again),
+            plain(Some(1)),
         ];
         assert_eq!(rt; built(alloc, &kinds)?.as_str(), want);
     }
+    Ok(())
+}
+
+#[test]
+fn tells_attributes_from_ports(rt: HostRuntime) -> Result<(), Fail> {
+    let alloc = rt.alloc();
     let attribute = [
         linked(None, &[(b"door", PortKind::Part, 0, 1, 3)]),
         sized(
@@ -265,14 +295,22 @@ fn refuses_wider_ports(rt: HostRuntime) -> Result<(), Fail> {
     Ok(())
 }
 
+/// A type may have 32 attributes and 16 ports, inherited ones included.
 #[test]
 fn counts_inherited_entries(rt: HostRuntime) -> Result<(), Fail> {
     let alloc = rt.alloc();
+    // The attributes and the ports of a type, and those that a type under it adds.
     for (above, below, crowded) in [
-        (20, 13, true),
-        (20, 12, false),
-        (0, 33, true),
-        (32, 0, false),
+        ((20, 0), (13, 0), true),
+        ((20, 0), (12, 0), false),
+        ((0, 0), (33, 0), true),
+        ((32, 0), (0, 0), false),
+        ((0, 10), (0, 7), true),
+        ((0, 10), (0, 6), false),
+        ((0, 0), (0, 17), true),
+        ((0, 16), (0, 0), false),
+        ((32, 16), (0, 0), false),
+        ((32, 10), (0, 7), true),
     ] {
         let mut types = Items::new(alloc);
         types.push(many(alloc, None, b'x', above)?)?;
@@ -281,12 +319,12 @@ fn counts_inherited_entries(rt: HostRuntime) -> Result<(), Fail> {
         assert_eq!(rt;
             text.as_str() == "Crowded { kind: 1 }",
             crowded,
-            "{above} and {below}"
+            "{above:?} and {below:?}"
         );
         assert_eq!(rt;
             text.as_str().starts_with("( "),
             !crowded,
-            "{above} and {below}"
+            "{above:?} and {below:?}"
         );
     }
     Ok(())
@@ -298,12 +336,14 @@ fn builds_a_long_chain(rt: HostRuntime) -> Result<(), Fail> {
     let alloc = rt.alloc();
     let mut types = Items::new(alloc);
     for t in 0..128u32 {
-        types.push(many(alloc, t.checked_sub(1), b'x', 2)?)?;
+        types.push(many(alloc, t.checked_sub(1), b'x', (2, 0))?)?;
     }
     let text = answer_text(alloc, &model_of(alloc, types))?;
     assert!(rt;
         text.as_str()
             .starts_with("( 0:0..1 1:0..1 )( 0:0..1 1:0..1 )")
     );
+    // So long is that row and one with no port, for each type.
+    assert_eq!(rt; text.len(), 128 * (17 + 3));
     Ok(())
 }

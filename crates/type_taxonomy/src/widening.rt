@@ -1,5 +1,5 @@
 //! The first declaration that does not narrow the nearest one of its name.
-ghost use Rattle.std.specs.Prelude.{◌≡◌, ℕ, ◌<◌, ◌^◌, true, length, slice_get, IfOk, IsTrue, MatchOption};
+ghost use Rattle.std.specs.Prelude.{ℕ, ◌<◌, ◌^◌, true, length, slice_get, IfOk, MatchOption};
 ghost use Rattle.std.specs.Option.{option_map_or};
 ghost use Rattle.prod_model.specs.declared.model.TypeDecl.{TypeDecl};
 ghost use Rattle.prod_model.specs.Forest.{ancestors};

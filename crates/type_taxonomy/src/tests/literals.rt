@@ -129,24 +129,50 @@ pub(super) fn formed_box(alloc: Global) -> Result<Model, AllocError>
     Ok(model_of(alloc, types))
 }
 
-/// A type of so many attributes, with two letters and the number of its name.
+/// The name of two letters and a number.
+fn numbered(alloc: Global, letter: u8, sort: u8, number: u8) -> Result<Name, AllocError> {
+    name(
+        alloc,
+        &[letter, sort, b'a' + number % 26, b'a' + number / 26],
+    )
+}
+
+fn many_attributes(alloc: Global, letter: u8, number: u8) -> Result<Items<AttrDecl>, AllocError> {
+    let mut attributes = Items::new(alloc);
+    for k in 0..number {
+        attributes.push(AttrDecl {
+            name: numbered(alloc, letter, b'a', k)?,
+            domain: Domain::Range { low: 0, high: 1 },
+        })?;
+    }
+    Ok(attributes)
+}
+
+fn many_ports(alloc: Global, letter: u8, number: u8) -> Result<Items<PortDecl>, AllocError> {
+    let mut ports = Items::new(alloc);
+    for k in 0..number {
+        ports.push(PortDecl {
+            name: numbered(alloc, letter, b'p', k)?,
+            kind: PortKind::Shared,
+            target: 0,
+            low: 0,
+            high: 1,
+        })?;
+    }
+    Ok(ports)
+}
+
+/// A type of so many attributes and ports, whose names begin with the letter.
 pub(super) fn many(
     alloc: Global,
     parent: Option<u32>,
     letter: u8,
-    number: u8,
+    number: (u8, u8),
 ) -> Result<TypeDecl, AllocError> {
-    let mut attributes = Items::new(alloc);
-    for k in 0..number {
-        attributes.push(AttrDecl {
-            name: name(alloc, &[letter, b'a' + k % 26, b'a' + k / 26])?,
-            domain: Domain::Range { low: 0, high: 1 },
-        })?;
-    }
     Ok(TypeDecl {
         name: name(alloc, b"Kind")?,
         parent,
-        attributes,
-        ports: Items::new(alloc),
+        attributes: many_attributes(alloc, letter, number.0)?,
+        ports: many_ports(alloc, letter, number.1)?,
     })
 }

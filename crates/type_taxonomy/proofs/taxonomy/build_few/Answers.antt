@@ -25,9 +25,6 @@ first_in_circle-requires-clause-few c = omega arith
 pub returns-in-Some-first_in_circle-clause-fault : goal.returns-in-Some-first_in_circle-clause-fault
 returns-in-Some-first_in_circle-clause-fault c = cycle_first c.args.model.now c.in-Some-first_in_circle.kind c.in_default.ensures c.in-Some-first_in_circle.ensures
 
-pub forest_of-requires-clause-few : goal.forest_of-requires-clause-few
-forest_of-requires-clause-few c = omega arith
-
 pub forest_of-requires-clause-few_attributes : goal.forest_of-requires-clause-few_attributes
 forest_of-requires-clause-few_attributes c = omega arith
 

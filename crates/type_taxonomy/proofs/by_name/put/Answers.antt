@@ -1,6 +1,6 @@
 use Rattle.std.proofs.Common.{◌∙◌}
-use Rattle.type_taxonomy.proofs.AboveLaws.{found_put}
-use Rattle.type_taxonomy.proofs.above.put.Goals as goal
+use Rattle.type_taxonomy.proofs.ByNameLaws.{found_put}
+use Rattle.type_taxonomy.proofs.by_name.put.Goals as goal
 
 pub returns : goal.returns
 returns g c =
