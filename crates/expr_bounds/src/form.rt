@@ -50,8 +50,8 @@ pub(crate) fn place_of_first(form: &Expr) -> u32
     }
 }
 
-/// Whether the form is a truth. The others are numbers.
-pub(crate) fn is_truth(form: &Expr) -> bool
+/// Whether an expression is a truth, by its form. The others are numbers.
+pub fn is_truth(form: &Expr) -> bool
     ensures { result ≡ is_truth_form (out-Expr form.now) }
 {
     match form {

@@ -7,8 +7,8 @@ ghost use Rattle.expr_bounds.specs.Forms.{is_form};
 use crate::form::{argument, argument_count};
 use prod_model::Expr;
 
-/// Whether each list of arguments has from 1 to 64 members.
-pub(crate) fn is_formed(expr: &Expr) -> bool
+/// Whether each list of arguments has 1 to 64 members, as `bounds_of` asks. It takes one step a part of the expression.
+pub fn is_formed(expr: &Expr) -> bool
     ensures { result ≡ is_form expr.now }
 {
     if !has_right_count(expr) {

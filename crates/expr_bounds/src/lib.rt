@@ -5,7 +5,6 @@ mod bounds;
 mod fault;
 mod first_words;
 mod form;
-#[cfg(test)]
 mod formed;
 mod interval;
 mod judge;
@@ -23,5 +22,7 @@ mod standing;
 mod tests;
 
 pub use fault::ExprFault;
+pub use form::is_truth;
+pub use formed::is_formed;
 pub use judge::bounds_of;
 pub use prod_model::Bounds;
