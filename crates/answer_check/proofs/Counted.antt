@@ -1,8 +1,8 @@
 -- One more element of a list that is read by its places.
-use Rattle.std.proofs.Common.{◌≡◌, ℕ, zero, suc, ◌+◌, ◌<◌, ◌∙◌, ap, ap₂, cond, Bool, true, false, ◌&&◌, ◌||◌, List, [], ◌∷◌, length, get_or, take, Some, arith}
+use Rattle.std.proofs.Common.{◌≡◌, ℕ, zero, suc, ◌+◌, ◌<◌, ◌∙◌, ap, cond, Bool, ◌&&◌, ◌||◌, List, [], ◌∷◌, length, get_or, take, Some, arith}
 use Rattle.std.specs.Prelude.{slice_get}
 use Rattle.std.specs.List.{count_by, fold, list_all, list_any}
-use Rattle.std.proofs.lemmas.List.Folds.{list_all_more, list_all_at, list_any_more, list_any_at}
+use Rattle.std.proofs.lemmas.List.Folds.{list_all_more, list_any_more}
 use Rattle.std.proofs.lemmas.Option.{same_Some, none-some, slice_get_within, get_or_from_slice_get}
 
 pub fold_next : {X S : Type 0} (f : S → X → S) (s : S) (xs : List X) (k : ℕ) (x : X) → slice_get xs k ≡ Some x
@@ -24,14 +24,8 @@ module _ {X : Type 0} (p : X → Bool) (xs : List X) (k : ℕ) (x : X) (at : sli
   within : k < length xs
   within = slice_get_within xs k x at
 
-  pub all_next : list_all p (take k xs) ≡ true → p x ≡ true → list_all p (take (k + 1) xs) ≡ true
-  all_next all passes = list_all_more p xs k x within ∙ ap₂ (λ a y. a && p y) all element ∙ passes
+  pub all_next : list_all p (take (k + 1) xs) ≡ (list_all p (take k xs) && p x)
+  all_next = list_all_more p xs k x within ∙ ap (λ y. list_all p (take k xs) && p y) element
 
-  pub all_stop : p x ≡ false → list_all p xs ≡ false
-  all_stop fails = list_all_at p xs k x within (ap p element ∙ fails)
-
-  pub any_next : list_any p (take k xs) ≡ false → p x ≡ false → list_any p (take (k + 1) xs) ≡ false
-  any_next none fails = list_any_more p xs k x within ∙ ap₂ (λ a y. a || p y) none element ∙ fails
-
-  pub any_stop : p x ≡ true → list_any p xs ≡ true
-  any_stop passes = list_any_at p xs k x within (ap p element ∙ passes)
+  pub any_next : list_any p (take (k + 1) xs) ≡ (list_any p (take k xs) || p x)
+  any_next = list_any_more p xs k x within ∙ ap (λ y. list_any p (take k xs) || p y) element

@@ -130,5 +130,3 @@ module _ (m : Model) (c : List Instance) (is : IsDeclared m) (shaped : IsTrue (i
 
   pub evaluable : (e : Expr) → HasBoundsAt m c i e → IsEvaluable m c i (out-Expr e)
   evaluable e h = evaluable-roll (out-Expr e) (subst (HasBoundsAt m c i) (sym (roll-out-Expr e)) h)
-
-pub ruleset value_laws = (value_at-form)

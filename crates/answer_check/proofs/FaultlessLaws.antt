@@ -1,7 +1,8 @@
 -- Rules and requests of a valid model and order have bounds where they are asked.
 use Rattle.std.proofs.Common.{◌≡◌, ℕ, ◌<◌, ◌∙◌, ap, ap₂, sym, Bool, true, false, not, ◌||◌, List, length, Option, Some, None, refl, arith}
 use Rattle.std.specs.Prelude.{slice_get, IsTrue}
-use Rattle.std.proofs.lemmas.Bool.{and_parts, true≢false}
+use Rattle.std.specs.Option.{option_map_or}
+use Rattle.std.proofs.lemmas.Bool.{and_parts, false≢true}
 use Rattle.std.proofs.lemmas.Option.{same_Some, slice_get_within}
 use Rattle.prod_model.specs.declared.model.Model.{Model}
 use Rattle.prod_model.specs.declared.model.Order.{Order}
@@ -17,7 +18,7 @@ use Rattle.prod_model.specs.ExprBounds.{bounds_at, is_truth, is_truth_at}
 use Rattle.prod_model.specs.Valid.{IsValid, IsValidOrder, has_faultless_rules}
 use Rattle.config_value.specs.declared.configuration.Instance.{Instance}
 use Rattle.config_value.specs.Shaped.{is_shaped}
-use Rattle.config_value.specs.Value.{under, is_true_at}
+use Rattle.config_value.specs.Value.{under, is_under, is_true_at}
 use Rattle.config_value.proofs.Places.{list_all_at}
 use Rattle.config_value.proofs.ShapedSentences.{shaped_sentences}
 use Rattle.answer_check.specs.Breaks.{false_rule}
@@ -50,29 +51,32 @@ request_bounded m o c k r valid shaped request =
     let root = ((shaped_sentences m c).0 shaped).root in
     bounded m c 0 r.holds m.root root.instance root.there root.of_type (list_all_at (λ s. is_truth_at m m.root s.holds) o.requests valid.requests k r request)
 
+pub bounded_under : (m : Model) (c : List Instance) (i : ℕ) (e : Expr) (t : ℕ) → is_under m c t i ≡ true → IsTrue (is_truth_at m t e) → HasBoundsAt m c i e
+bounded_under m c i e t below truth = by_instance (slice_get c i) refl
+  where
+    by_instance : (o : Option Instance) → slice_get c i ≡ o → HasBoundsAt m c i e
+    by_instance None none = absurd (false≢true (sym (ap (λ o. option_map_or (under m t) o false) none) ∙ below))
+    by_instance (Some x) stands = bounded m c i e t x stands (sym (ap (λ o. option_map_or (under m t) o false) stands) ∙ below) truth
+
 -- ---- what is false
 
-false-parts : (a b : Bool) → (not a || b) ≡ false → (a ≡ true) × (b ≡ false)
-false-parts a b is = (grind arith, grind arith)
+module _ (m : Model) (c : List Instance) (i k : ℕ) (r : Rule) (rule : slice_get m.rules k ≡ Some r) where
+  -- the rule is broken where it is false at an instance under its type
+  pub rule_broken : is_under m c r.kind i ≡ true → is_true_at m c i r.holds ≡ false → BreaksAt m c 10 i k
+  rule_broken below fails = by_instance (slice_get c i) refl
+    where
+      by_instance : (o : Option Instance) → slice_get c i ≡ o → BreaksAt m c 10 i k
+      by_instance None none = absurd (false≢true (sym (ap (λ o. option_map_or (under m r.kind) o false) none) ∙ below))
+      by_instance (Some x) stands = false_rule refl x r stands rule (sym (ap (λ o. option_map_or (under m r.kind) o false) stands) ∙ below) fails
 
-false-from : (a b : Bool) → a ≡ true → b ≡ false → (not a || b) ≡ false
-false-from a b all none = grind arith
-
-module _ (m : Model) (c : List Instance) (i k : ℕ) (x : Instance) (r : Rule) (stands : slice_get c i ≡ Some x) (rule : slice_get m.rules k ≡ Some r) where
-  abbrev Follows : Bool
-  Follows = not (under m r.kind x) || is_true_at m c i r.holds
-
-  pub rule_broken : Follows ≡ false → BreaksAt m c 10 i k
-  rule_broken wrong = let parts = false-parts (under m r.kind x) (is_true_at m c i r.holds) wrong in false_rule refl x r stands rule parts.0 parts.1
-
-  pub rule_kept : Follows ≡ true → BreaksAt m c 10 i k → ⊥
-  rule_kept right broken =
+  -- and nowhere else
+  pub rule_broken-parts : BreaksAt m c 10 i k → (is_under m c r.kind i ≡ true) × (is_true_at m c i r.holds ≡ false)
+  rule_broken-parts broken =
       let parts = false_rule-parts m c 10 i k refl broken in
-      let same_x : parts.0 ≡ x = same_Some parts.0 x (sym parts.2 ∙ stands) in
-      let same_r : parts.1 ≡ r = same_Some parts.1 r (sym parts.3 ∙ rule) in
-      let under' : under m r.kind x ≡ true = ap₂ (λ s y. under m s.kind y) (sym same_r) (sym same_x) ∙ parts.4 in
-      let false' : is_true_at m c i r.holds ≡ false = ap (λ s. is_true_at m c i s.holds) (sym same_r) ∙ parts.5 in
-      true≢false (sym right ∙ false-from (under m r.kind x) (is_true_at m c i r.holds) under' false')
+      let same : parts.1 ≡ r = same_Some parts.1 r (sym parts.3 ∙ rule) in (
+        ap (λ o. option_map_or (under m r.kind) o false) parts.2 ∙ ap (λ s. under m s.kind parts.0) (sym same) ∙ parts.4,
+        ap (λ s. is_true_at m c i s.holds) (sym same) ∙ parts.5,
+      )
 
 pub rule-within : (m : Model) (c : List Instance) (i k : ℕ) → BreaksAt m c 10 i k → i < length c
 rule-within m c i k broken = let parts = false_rule-parts m c 10 i k refl broken in slice_get_within c i parts.0 parts.2

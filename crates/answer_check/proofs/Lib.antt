@@ -28,4 +28,7 @@ pub mod BoundsUse
 pub mod FaultlessLaws
 pub mod FirstBreaks
 pub mod NoBreaks
-pub mod RacksSpelled
+pub mod MemberLaws
+pub mod LinkedLaws
+pub mod TruthLaws
+pub mod FirstRule

@@ -1,5 +1,5 @@
 -- What a form of expression is at an instance from what its arguments are, and where it can be computed in 64 bits.
-use Rattle.std.specs.Prelude.{◌≡◌, ℕ, ℤ, pos, neg_ℤ, ◌≤ℤ◌, ◌-ℤ◌, ◌*ℤ◌, not, ◌||◌, List, map, length, slice_get, Some}
+use Rattle.std.specs.Prelude.{◌≡◌, ℕ, ℤ, pos, neg_ℤ, Bool, false, ◌≤ℤ◌, ◌-ℤ◌, ◌*ℤ◌, not, ◌||◌, List, map, length, slice_get, Some}
 use Rattle.std.specs.Ordering.{int_eq}
 use Rattle.std.specs.List.{list_any, list_all, filter, count_by}
 use Rattle.prod_model.specs.declared.model.Model.{Model}
@@ -32,6 +32,13 @@ form_value m c i (Not e) = truth (not (is_true_at m c i e))
 form_value m c i (If e f) = truth (not (is_true_at m c i e) || is_true_at m c i f)
 form_value m c i (All p e) = truth (list_all (λ j. is_true_at m c j e) (links_at_instance m c p i))
 form_value m c i (Any p e) = truth (list_any (λ j. is_true_at m c j e) (links_at_instance m c p i))
+
+-- whether a truth without truths in it holds at an instance
+abbrev pub simple_truth : Model → List Instance → ℕ → Expr-F Expr → Bool
+simple_truth m c i (Cmp r e f) = holds r (number_at m c i e) (number_at m c i f)
+simple_truth m c i (Is a w) = int_eq (value_at_instance m c a i) (pos w)
+simple_truth m c i (Kind t) = is_under m c t i
+simple_truth m c i form = false
 
 -- a number no farther from 0 than a bound of an expression may be
 pub record IsSmall (n : ℤ) : Type 0 where

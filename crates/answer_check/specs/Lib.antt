@@ -5,5 +5,5 @@ pub mod Seen
 pub mod Turns
 pub mod Faultless
 pub mod Evaluable
+pub mod InstanceSets
 pub mod Requested
-pub mod Racks

@@ -4,17 +4,19 @@
 mod evaluate;
 mod first_words;
 mod in_order;
+mod instance_set;
 mod instances;
 pub mod laws;
+mod linked;
 mod links;
 mod masks;
+mod numbers;
 mod parts;
 mod place;
 mod rules;
 mod sizes;
 mod sums;
-#[cfg(test)]
-mod tests;
+mod truths;
 mod turns;
 mod types;
 mod values;

@@ -1,6 +1,7 @@
 //! Masks of instances, in which bit j stands for instance j.
-ghost use Rattle.std.specs.Prelude.{◌≡◌, ◌<◌, ◌==◌, ◌^◌};
+ghost use Rattle.std.specs.Prelude.{◌≡◌, ◌<◌, ◌==◌, ◌^◌, IsTrue};
 ghost use Rattle.std.specs.Int.{bit_at};
+ghost use Rattle.answer_check.specs.Finds.{FindsItem};
 
 /// The mask of one instance.
 #[tactic(auto, using(crate::proofs::Masks64::one_bit))]
@@ -13,8 +14,17 @@ pub(crate) fn bit(j: u32) -> u64
 
 /// Whether the mask has the instance.
 pub(crate) fn has_bit(mask: u64, j: u32) -> bool
-    requires { j < 64 }
     ensures { result ≡ (bit_at mask j == 1) }
 {
-    (mask >> j) & 1 == 1
+    j < 64 && (mask >> j) & 1 == 1
+}
+
+/// The lowest instance of the mask.
+pub(crate) fn first_bit(mask: u64) -> Option<u32>
+    ensures { FindsItem (λ j. IsTrue (bit_at mask j == 1)) result }
+{
+    if mask == 0 {
+        return None;
+    }
+    Some(mask.trailing_zeros())
 }

@@ -1,58 +1,71 @@
 //! Rules that are false, and requests that are met.
-ghost use Rattle.std.specs.Prelude.{◌≡◌, ◌<◌, ◌||◌, not, length, slice_get, IsTrue};
+ghost use Rattle.std.specs.Prelude.{◌≡◌, ℕ, ◌<◌, ◌≤◌, ◌&&◌, nat_lt, not, length, IsTrue};
 ghost use Rattle.prod_model.specs.ExprBounds.{is_truth_at};
 ghost use Rattle.prod_model.specs.Valid.{IsValid, IsValidOrder};
 ghost use Rattle.config_value.specs.Shaped.{is_shaped};
-ghost use Rattle.config_value.specs.Value.{under, is_true_at};
-ghost use Rattle.answer_check.specs.Finds.{BreaksAt, FindsItem, FindsPlace};
+ghost use Rattle.config_value.specs.Value.{is_under as is_under_of, is_true_at};
+ghost use Rattle.answer_check.specs.Finds.{BreaksAt, FindsPlace};
+ghost use Rattle.answer_check.specs.InstanceSets.{is_member};
 ghost use Rattle.answer_check.specs.Requested.{MeetsRequest};
 
-use crate::evaluate::{as_truth, found_at};
+use crate::evaluate::truth_at;
+use crate::instance_set::InstanceSet;
 use crate::place::Place;
+use crate::truths::true_among;
 use crate::types::is_under;
-use config_value::{Configuration, Instance};
+use config_value::Configuration;
 use prod_model::{Order, Problem, Rule};
 
 /// The first rule that is false at an instance under its type: the first such instance, and the first such rule there. Each
-/// rule is computed once at each instance under its type.
+/// part of a rule is gone over once, for all instances at which it is asked. There a number takes a step for each instance
+/// or link that it counts, and a truth about linked instances a step for each link.
 pub(crate) fn false_rule(problem: &Problem, c: &Configuration) -> Option<Place>
     requires valid { IsValid problem.now }
     requires shaped { IsTrue (is_shaped problem.now c.now) }
     ensures { FindsPlace (BreaksAt problem.now c.now 10) result }
 {
-    for i in 0..c.len() as u32 {
-        if let Some(item) = false_rule_at(problem, c, i) {
-            return Some(Place { instance: i, item });
-        }
-    }
-    None
-}
-
-fn false_rule_at(problem: &Problem, c: &Configuration, i: u32) -> Option<u32>
-    requires valid { IsValid problem.now }
-    requires shaped { IsTrue (is_shaped problem.now c.now) }
-    requires instance { i < length c.now }
-    ensures { FindsItem (BreaksAt problem.now c.now 10 i) result }
-{
-    let instance = c.get(i);
     let rules = problem.model().rules.as_slice();
+    let mut first = None;
+    // A later rule comes first only at an instance below the one found.
+    let mut below = c.len() as u32;
     for k in 0..rules.len() {
-        if !follows(problem, c, i, instance, &rules[k]) {
-            return Some(k as u32);
+        if let Some(instance) = false_below(problem, c, &rules[k], below).first() {
+            first = Some(Place {
+                instance,
+                item: k as u32,
+            });
+            below = instance;
         }
     }
-    None
+    first
 }
 
-/// Whether the instance is not under the rule's type, or the rule is true there.
-fn follows(problem: &Problem, c: &Configuration, i: u32, instance: &Instance, rule: &Rule) -> bool
+/// The instances of lower numbers under a rule's type at which it is false.
+fn false_below(problem: &Problem, c: &Configuration, rule: &Rule, below: u32) -> InstanceSet
     requires valid { IsValid problem.now }
     requires shaped { IsTrue (is_shaped problem.now c.now) }
-    requires stands { slice_get c.now i ≡ Some instance.now }
+    requires within { below ≤ length c.now }
     requires faultless { IsTrue (is_truth_at problem.now rule.now.kind rule.now.holds) }
-    ensures { result ≡ (not (under problem.now rule.now.kind instance.now) || is_true_at problem.now c.now i rule.now.holds) }
+    ensures { (i : ℕ) → is_member result i
+        ≡ ((nat_lt i below && is_under_of problem.now c.now rule.now.kind i) && not (is_true_at problem.now c.now i rule.now.holds)) }
 {
-    !is_under(problem, instance.kind, rule.kind) || as_truth(found_at(problem, c, i, &rule.holds))
+    let under = under_below(problem, c, rule.kind, below);
+    under.without(true_among(problem, c, under, &rule.holds))
+}
+
+/// The instances of lower numbers under a type.
+fn under_below(problem: &Problem, c: &Configuration, kind: u32, below: u32) -> InstanceSet
+    requires within { below ≤ length c.now }
+    requires few { length c.now ≤ 64 }
+    ensures { (i : ℕ) → is_member result i ≡ (nat_lt i below && is_under_of problem.now c.now kind i) }
+{
+    let mut under = InstanceSet::empty();
+    for i in 0..below {
+        if is_under(problem, c.get(i).kind, kind) {
+            under = under.with(i);
+        }
+    }
+    under
 }
 
 /// Whether the configuration meets the request of that number: it is true at the root product.
@@ -64,5 +77,5 @@ pub fn meets(problem: &Problem, order: &Order, k: u32, c: &Configuration) -> boo
 {
     let _model = problem.model();
     let request = &order.requests.as_slice()[k as usize];
-    as_truth(found_at(problem, c, 0, &request.holds))
+    truth_at(problem, c, 0, &request.holds)
 }

@@ -13,7 +13,7 @@ use crate::place::Place;
 use config_value::Configuration;
 use prod_model::Problem;
 
-/// Whether there are more instances than the model allows. The first one too many stands for them.
+/// Whether there are more instances than the model allows. The first one too many stands for them. One comparison.
 pub(crate) fn too_many(problem: &Problem, c: &Configuration) -> Option<Place>
     ensures { FindsPlace (BreaksAt problem.now c.now 1) result }
 {
@@ -27,7 +27,7 @@ pub(crate) fn too_many(problem: &Problem, c: &Configuration) -> Option<Place>
     })
 }
 
-/// Whether instance 0 is not under the root type.
+/// Whether instance 0 is not under the root type. One look-up.
 pub(crate) fn other_root(problem: &Problem, c: &Configuration) -> Option<Place>
     ensures { FindsPlace (BreaksAt problem.now c.now 2) result }
 {

@@ -11,13 +11,6 @@ turns_in-turns-requires c = few_instances c.args.problem.now c.args.c.now c.requ
 pub overflow_cast-j-end : goal.overflow_cast-j-end
 overflow_cast-j-end c = omega (arith, few_instances c.args.problem.now c.args.c.now c.requires)
 
-pub has_bit-requires : goal.has_bit-requires
-has_bit-requires c = omega (arith, few_instances c.args.problem.now c.args.c.now c.requires)
-
--- instance 0 has no turn
-pub loop-j-init : goal.loop-j-init
-loop-j-init c = λ i k low broken. let past = out-past c.args.problem.now c.args.c.now i k broken in omega arith
-
 pub returns-then-not-has_bit : goal.returns-then-not-has_bit
 returns-then-not-has_bit c =
     let low : c.loop-j.j < 64 = omega (arith, few_instances c.args.problem.now c.args.c.now c.requires) in

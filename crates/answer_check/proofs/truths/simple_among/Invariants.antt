@@ -1,0 +1,10 @@
+use Rattle.std.proofs.Common.{◌&&◌}
+use Rattle.prod_model.specs.declared.expr.Expr.TheViews.{out-Expr}
+use Rattle.answer_check.specs.Evaluable.{simple_truth}
+use Rattle.answer_check.specs.InstanceSets.{is_member}
+use Rattle.answer_check.proofs.MemberLaws.{HasFoundBelow}
+use Rattle.answer_check.proofs.truths.simple_among.Given as goal
+
+-- those so far at which it holds
+abbrev pub invariant-loop-i : goal.invariant-loop-i
+invariant-loop-i l = HasFoundBelow (λ k. is_member l.among k && simple_truth l.problem l.c k (out-Expr l.e)) l.i l.found
