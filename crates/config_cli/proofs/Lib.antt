@@ -12,3 +12,4 @@ pub mod CommandLaws
 pub mod OutcomeLaws
 pub mod RunLaws
 pub mod OrderLaws
+pub mod Wishes

@@ -9,6 +9,8 @@ mod outcome;
 mod run;
 mod texts;
 mod walk;
+#[cfg(test)]
+mod worked;
 
 use cfg_io::{DiskShelf, OutSink};
 pub use run::run_alone;

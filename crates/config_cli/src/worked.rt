@@ -1,0 +1,10 @@
+//! Worked models: verdicts on their answers, and values of expressions there.
+mod expressions;
+mod formed;
+mod largest;
+mod literals;
+mod models;
+mod names;
+mod problems;
+mod values;
+mod verdicts;

@@ -1,0 +1,290 @@
+//! Verdicts on answers, worked out by hand: each test broken alone, and pairs that show the order of the tests.
+use super::models::{
+    boxes, colours, few_cards, nodes, one_card, racks, ruled_cards, shared_drivers, two_ports,
+};
+use super::problems::problem_of;
+use answer_check::{Verdict, check};
+use canonical_form::read_answer;
+use prod_model::{Model, PortKind};
+use std::alloc::{AllocError, Global};
+use std::test::Fail;
+
+/// The model that an answer is checked against.
+#[derive(Clone, Copy, Debug)]
+enum Of {
+    Boxes,
+    Colours,
+    TwoPorts,
+    OneCard,
+    SharedDrivers,
+    NodeParts,
+    NodeUses,
+    RuledCards,
+    Racks,
+    FewCards,
+}
+
+fn model_of(alloc: Global, of: Of) -> Result<Model, AllocError> {
+    match of {
+        Of::Boxes => boxes(alloc),
+        Of::Colours => colours(alloc),
+        Of::TwoPorts => two_ports(alloc),
+        Of::OneCard => one_card(alloc),
+        Of::SharedDrivers => shared_drivers(alloc),
+        Of::NodeParts => nodes(alloc, PortKind::Part),
+        Of::NodeUses => nodes(alloc, PortKind::Shared),
+        Of::RuledCards => ruled_cards(alloc),
+        Of::Racks => racks(alloc),
+        Of::FewCards => few_cards(alloc),
+    }
+}
+
+/// The verdict on an answer whose lines these are.
+fn verdict(alloc: Global, of: Of, lines: &str) -> Result<Verdict, Fail> {
+    let problem = problem_of(alloc, model_of(alloc, of)?)?;
+    let answer = read_answer(alloc, &problem, lines.as_bytes())?;
+    Ok(check(&problem, &answer))
+}
+
+const SATISFIED: [(Of, &str); 9] = [
+    (Of::Boxes, "preferred\n0 Box width=2\n"),
+    (Of::Colours, "preferred\n0 Blue colour=blue\n"),
+    (Of::TwoPorts, "preferred\n0 Rack left: right:1\n1 Card\n"),
+    (
+        Of::TwoPorts,
+        "preferred\n0 Rack left:1 right:2\n1 Card\n2 Card\n",
+    ),
+    (Of::OneCard, "preferred\n0 Rack left: right:1\n1 Card\n"),
+    (
+        Of::SharedDrivers,
+        "preferred\n0 Rack cards:1,2\n1 Card driver:3\n2 Card driver:3\n3 Driver\n",
+    ),
+    (Of::NodeUses, "preferred\n0 Node next:0\n"),
+    (
+        Of::RuledCards,
+        "preferred\n0 Rack cards:1,2\n1 Card power=5\n2 Card power=7\n",
+    ),
+    (
+        Of::Racks,
+        "preferred\n0 Rack price=50 cards:1,2\n1 Big price=18 power=12\n2 Big price=18 power=12\n",
+    ),
+];
+
+#[test]
+fn is_satisfied(rt: HostRuntime) -> Result<(), Fail> {
+    for (of, lines) in SATISFIED {
+        let told = verdict(rt.alloc(), of, lines)?;
+        assert_eq!(rt; told, Verdict::Satisfied, "{of:?} {lines}");
+    }
+    Ok(())
+}
+
+const BROKEN: [(Of, &str, u32, u32, u32); 19] = [
+    (
+        Of::Boxes,
+        "preferred\n0 Box width=2\n1 Box width=2\n",
+        1,
+        1,
+        0,
+    ),
+    (Of::TwoPorts, "preferred\n0 Card\n", 2, 0, 0),
+    (Of::Boxes, "preferred\n0 Box width=4\n", 3, 0, 0),
+    (Of::Boxes, "preferred\n0 Box width=0\n", 3, 0, 0),
+    (Of::Colours, "preferred\n0 Blue colour=red\n", 3, 0, 0),
+    (Of::TwoPorts, "preferred\n0 Rack left:1 right:\n", 4, 0, 0),
+    (Of::TwoPorts, "preferred\n0 Rack left: right:1\n", 4, 0, 1),
+    (
+        Of::TwoPorts,
+        "preferred\n0 Rack left:1 right:\n1 Rack left: right:\n",
+        5,
+        0,
+        0,
+    ),
+    (
+        Of::SharedDrivers,
+        "preferred\n0 Rack cards:1\n1 Card driver:2\n2 Driver\n",
+        6,
+        0,
+        0,
+    ),
+    (
+        Of::NodeUses,
+        "preferred\n0 Node next:0,1\n1 Node next:0\n",
+        6,
+        0,
+        0,
+    ),
+    // Both ports hold card 2, each of them once.
+    (
+        Of::TwoPorts,
+        "preferred\n0 Rack left:1,2 right:2\n1 Card\n2 Card\n",
+        7,
+        2,
+        0,
+    ),
+    (Of::NodeParts, "preferred\n0 Node next:0\n", 7, 0, 0),
+    (
+        Of::TwoPorts,
+        "preferred\n0 Rack left:2 right:1\n1 Card\n2 Card\n",
+        8,
+        2,
+        0,
+    ),
+    (
+        Of::TwoPorts,
+        "preferred\n0 Rack left:1 right:\n1 Card\n2 Card\n",
+        8,
+        2,
+        0,
+    ),
+    // A higher instance alone links it.
+    (
+        Of::NodeUses,
+        "preferred\n0 Node next:0\n1 Node next:2\n2 Node next:1\n",
+        8,
+        1,
+        0,
+    ),
+    (Of::OneCard, "preferred\n0 Rack left: right:\n", 9, 0, 0),
+    (
+        Of::OneCard,
+        "preferred\n0 Rack left:1 right:2\n1 Card\n2 Card\n",
+        9,
+        0,
+        0,
+    ),
+    (
+        Of::RuledCards,
+        "preferred\n0 Rack cards:1\n1 Card power=4\n",
+        10,
+        1,
+        0,
+    ),
+    (
+        Of::Racks,
+        "preferred\n0 Rack price=50 cards:1,2,3\n1 Big price=18 power=12\n2 Big price=18 power=12\n3 Big price=18 power=12\n",
+        10,
+        0,
+        0,
+    ),
+];
+
+#[test]
+fn breaks_one_test(rt: HostRuntime) -> Result<(), Fail> {
+    for (of, lines, code, instance, item) in BROKEN {
+        let told = verdict(rt.alloc(), of, lines)?;
+        let want = Verdict::Broken {
+            code,
+            instance,
+            item,
+        };
+        assert_eq!(rt; told, want, "{of:?} {lines}");
+    }
+    Ok(())
+}
+
+/// Of two tests that an answer breaks the one of the lesser code is told, wherever it is broken; then the one of the lower
+/// instance, and then of the lesser item.
+const FIRST_BROKEN: [(Of, &str, u32, u32, u32); 13] = [
+    (
+        Of::TwoPorts,
+        "preferred\n0 Card\n1 Card\n2 Card\n3 Card\n",
+        1,
+        3,
+        0,
+    ),
+    (Of::RuledCards, "preferred\n0 Card power=10\n", 2, 0, 0),
+    (
+        Of::RuledCards,
+        "preferred\n0 Rack cards:2\n1 Card power=10\n",
+        3,
+        1,
+        0,
+    ),
+    (
+        Of::TwoPorts,
+        "preferred\n0 Rack left:1 right:\n1 Rack left: right:2\n",
+        4,
+        1,
+        1,
+    ),
+    (
+        Of::SharedDrivers,
+        "preferred\n0 Rack cards:1,2\n1 Card driver:2\n2 Card driver:7\n",
+        4,
+        2,
+        0,
+    ),
+    (
+        Of::SharedDrivers,
+        "preferred\n0 Rack cards:1\n1 Card driver:0\n",
+        5,
+        1,
+        0,
+    ),
+    (
+        Of::NodeParts,
+        "preferred\n0 Node next:0,1\n1 Node next:1\n",
+        6,
+        0,
+        0,
+    ),
+    (
+        Of::TwoPorts,
+        "preferred\n0 Rack left:2 right:2\n1 Card\n2 Card\n",
+        7,
+        2,
+        0,
+    ),
+    (
+        Of::OneCard,
+        "preferred\n0 Rack left:2 right:1\n1 Card\n2 Card\n",
+        8,
+        2,
+        0,
+    ),
+    (
+        Of::FewCards,
+        "preferred\n0 Rack price=50 cards:1,2,3\n1 Big price=18 power=12\n2 Big price=18 power=12\n3 Big price=18 power=12\n",
+        9,
+        0,
+        0,
+    ),
+    // The first link of the port is to a card, and the other one to no instance.
+    (
+        Of::TwoPorts,
+        "preferred\n0 Rack left:1,2 right:3\n1 Card\n",
+        4,
+        0,
+        0,
+    ),
+    // The lower instance breaks the later rule.
+    (
+        Of::RuledCards,
+        "preferred\n0 Rack cards:1,2\n1 Card power=8\n2 Card power=3\n",
+        10,
+        1,
+        1,
+    ),
+    (
+        Of::RuledCards,
+        "preferred\n0 Rack cards:1,2\n1 Card power=0\n2 Card power=10\n",
+        3,
+        1,
+        0,
+    ),
+];
+
+#[test]
+fn tells_the_first_broken_test(rt: HostRuntime) -> Result<(), Fail> {
+    for (of, lines, code, instance, item) in FIRST_BROKEN {
+        let told = verdict(rt.alloc(), of, lines)?;
+        let want = Verdict::Broken {
+            code,
+            instance,
+            item,
+        };
+        assert_eq!(rt; told, want, "{of:?} {lines}");
+    }
+    Ok(())
+}
