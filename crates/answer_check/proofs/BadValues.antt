@@ -22,10 +22,10 @@ unfolding is_spelled has_leaf_types
 built m c i x spelled at = is_built_at m x (list_all_at (is_built m) c (and_parts _ _ (and_parts _ _ spelled).0).1 i x at)
 
 -- what a type has is found under its id
-pub found-known : (id : ℕ) (attributes : List AttrAt) (k : ℕ) (a : AttrAt) → slice_get attributes k ≡ Some a → a.id ≡ id → IsSome (find (λ b. b.id == id) attributes)
-found-known id [] k a at same = absurd (none-some a at)
-found-known id (b ∷ attributes) zero a at same = let here : b ≡ a = same_Some b a at in let e : (b.id == id) ≡ true = eq-eqb b.id id (ap (λ x. x.id) here ∙ same) in grind (arith)
-found-known id (b ∷ attributes) (suc k) a at same = let rest = found-known id attributes k a at same in grind (arith)
+pub found_known : (id : ℕ) (attributes : List AttrAt) (k : ℕ) (a : AttrAt) → slice_get attributes k ≡ Some a → a.id ≡ id → IsSome (find (λ b. b.id == id) attributes)
+found_known id [] k a at same = absurd (none-some a at)
+found_known id (b ∷ attributes) zero a at same = let here : b ≡ a = same_Some b a at in let e : (b.id == id) ≡ true = eq-eqb b.id id (ap (λ x. x.id) here ∙ same) in grind (arith)
+found_known id (b ∷ attributes) (suc k) a at same = let rest = found_known id attributes k a at same in grind (arith)
 
 -- the parts of a value out of its domain
 pub record HasBadValue (m : Model) (c : List Instance) (i k : ℕ) : Type 0 where
@@ -64,11 +64,11 @@ good_value m c i k x a v stands attribute value good broken =
     let here : has_value m parts.a parts.v ≡ has_value m a v = λ i. has_value m (attribute' i) (value' i) in
     absurd cc
 
-pub bad-within : (m : Model) (c : List Instance) (i k : ℕ) → BreaksAt m c 3 i k → i < length c
-bad-within m c i k broken = let parts = bad_parts m c 3 i k refl broken in slice_get_within c i parts.x parts.stands
+pub bad_within : (m : Model) (c : List Instance) (i k : ℕ) → BreaksAt m c 3 i k → i < length c
+bad_within m c i k broken = let parts = bad_parts m c 3 i k refl broken in slice_get_within c i parts.x parts.stands
 
-pub bad-item_within : (m : Model) (c : List Instance) (i k : ℕ) (x : Instance) → slice_get c i ≡ Some x → BreaksAt m c 3 i k → k < length (attributes_at m x.kind)
-bad-item_within m c i k x stands broken =
+pub bad_item_within : (m : Model) (c : List Instance) (i k : ℕ) (x : Instance) → slice_get c i ≡ Some x → BreaksAt m c 3 i k → k < length (attributes_at m x.kind)
+bad_item_within m c i k x stands broken =
     let parts = bad_parts m c 3 i k refl broken in
     let same : parts.x ≡ x = same_Some parts.x x (sym parts.stands ∙ stands) in
     let HasAttribute : Instance → Type 0 = λ y. slice_get (attributes_at m y.kind) k ≡ Some parts.a in
@@ -77,11 +77,11 @@ bad-item_within m c i k x stands broken =
 -- an attribute that was read, and the value beside it
 module _ (m : Model) (c : List Instance) (i : ℕ) (x : Instance) (spelled : IsTrue (is_spelled m c)) (stands : slice_get c i ≡ Some x)
     (attributes : List AttrAt) (values : List ℤ) (all : attributes ≡ attributes_at m x.kind) (own : values ≡ x.values) (k : ℕ) where
-  pub value-within : k < length attributes → k < length values
-  value-within within = let long = built m c i x spelled stands in omega (arith, long.each_attribute, ap length all, ap length own)
+  pub value_is_within : k < length attributes → k < length values
+  value_is_within within = let long = built m c i x spelled stands in omega (arith, long.each_attribute, ap length all, ap length own)
 
-  pub attribute-read : (a : AttrAt) → k < length attributes → a ≡ get_or attributes k a → slice_get (attributes_at m x.kind) k ≡ Some a
-  attribute-read a within is = ap (λ xs. slice_get xs k) (sym all) ∙ slice_get_read attributes (length attributes) k a refl within is
+  pub attribute_read : (a : AttrAt) → k < length attributes → a ≡ get_or attributes k a → slice_get (attributes_at m x.kind) k ≡ Some a
+  attribute_read a within is = ap (λ xs. slice_get xs k) (sym all) ∙ slice_get_read attributes (length attributes) k a refl within is
 
-  pub value-read : k < length attributes → slice_get x.values k ≡ Some (get_or values k (pos 0))
-  value-read within = ap (λ xs. slice_get xs k) (sym own) ∙ slice_get-get_or values k (pos 0) (value-within within)
+  pub value_read : k < length attributes → slice_get x.values k ≡ Some (get_or values k (pos 0))
+  value_read within = ap (λ xs. slice_get xs k) (sym own) ∙ slice_get-get_or values k (pos 0) (value_is_within within)

@@ -20,7 +20,7 @@ use Rattle.prod_model.specs.Forest.{is_a, is_type}
 use Rattle.prod_model.specs.Taxonomy.{attribute_of, port_of}
 use Rattle.prod_model.specs.ExprBounds.{bounds_at, bounded, sum_of_some, sum_of_all, truth_of, of_range, has_arguments}
 use Rattle.prod_model.specs.Valid.{IsDeclared}
-use Rattle.prod_model.proofs.ExprBoundsLaws.{bounds_at-Num, bounds_at-Attr, bounds_at-Count, bounds_at-CountOf, bounds_at-Sum, bounds_at-Total, bounds_at-Number, bounds_at-Add, bounds_at-Sub, bounds_at-Times, bounds_at-Cmp, bounds_at-Is, bounds_at-Kind, bounds_at-And, bounds_at-Or, bounds_at-Not, bounds_at-If, bounds_at-All, bounds_at-Any}
+use Rattle.prod_model.proofs.ExprBoundsLaws.{bounds_at_Num, bounds_at_Attr, bounds_at_Count, bounds_at_CountOf, bounds_at_Sum, bounds_at_Total, bounds_at_Number, bounds_at_Add, bounds_at_Sub, bounds_at_Times, bounds_at_Cmp, bounds_at_Is, bounds_at_Kind, bounds_at_And, bounds_at_Or, bounds_at_Not, bounds_at_If, bounds_at_All, bounds_at_Any}
 use Rattle.config_value.specs.declared.configuration.Instance.{Instance}
 use Rattle.config_value.specs.declared.found.Found.{Found}
 use Rattle.config_value.specs.declared.found.Found.TheVariants as found
@@ -28,7 +28,7 @@ use Rattle.config_value.specs.Value.{value_at, value_of, value_at_instance, link
 use Rattle.config_value.specs.ShapedSentences.{IsAt, IsInstanceUnder, HasShape}
 use Rattle.config_value.specs.BoundsHold.{IsWithinBounds, BoundsHold}
 use Rattle.config_value.proofs.ShapedSentences.{shaped_sentences}
-use Rattle.config_value.proofs.ValueLaws.{value_at-Num, value_at-Attr, value_at-Count, value_at-CountOf, value_at-Sum, value_at-Total, value_at-Number, value_at-Add, value_at-Sub, value_at-Times, value_at-Cmp, value_at-Is, value_at-Kind, value_at-And, value_at-Or, value_at-Not, value_at-If, value_at-All, value_at-Any}
+use Rattle.config_value.proofs.ValueLaws.{value_at_Num, value_at_Attr, value_at_Count, value_at_CountOf, value_at_Sum, value_at_Total, value_at_Number, value_at_Add, value_at_Sub, value_at_Times, value_at_Cmp, value_at_Is, value_at_Kind, value_at_And, value_at_Or, value_at_Not, value_at_If, value_at_All, value_at_Any}
 use Rattle.answer_check.proofs.ListLaws.{map_at, filter_at}
 use Rattle.answer_check.proofs.HeldLaws.{IsInRange, held_value, held_links}
 use Rattle.answer_check.proofs.ToldLaws.{IsToldOf, and_then_some, map_some, if_some, number_within, value_within, values_within, truth_within, truth_told, comparison_told, multiple_within, difference_within, sum_within}
@@ -66,18 +66,18 @@ module _ (m : Model) (c : List Instance) (is : IsDeclared m) (s : HasShape m c) 
 
   -- a number is within its own bounds
   held_num : (n : ℤ) → IsHeld (roll-Expr (Num n))
-  held_num n i t x at below = held_by (roll-Expr (Num n)) i t (bounded n n) (found.Number n) (bounds_at-Num m t n) (value_at-Num m c i n) (λ b told.
+  held_num n i t x at below = held_by (roll-Expr (Num n)) i t (bounded n n) (found.Number n) (bounds_at_Num m t n) (value_at_Num m c i n) (λ b told.
       number_within n n n b (omega (arith, ints), omega (arith, ints)) told)
 
   -- the value of an attribute is in its range
   held_attr : (a : ℕ) → IsHeld (roll-Expr (Attr a))
-  held_attr a i t x at below = held_by (roll-Expr (Attr a)) i t _ _ (bounds_at-Attr m t a) (value_at-Attr m c i a) (λ b told.
+  held_attr a i t x at below = held_by (roll-Expr (Attr a)) i t _ _ (bounds_at_Attr m t a) (value_at_Attr m c i a) (λ b told.
       let attribute = and_then_some (of_range bounded) (attribute_of m t a) b told in
       value_within attribute.0 (value_at_instance m c a i) b (held_value m c is s i x at t below a attribute.0 attribute.1) attribute.2)
 
   -- the number of a port's links is within its pair
   held_count : (p : ℕ) → IsHeld (roll-Expr (Count p))
-  held_count p i t x at below = held_by (roll-Expr (Count p)) i t _ _ (bounds_at-Count m t p) (value_at-Count m c i p) (λ b told.
+  held_count p i t x at below = held_by (roll-Expr (Count p)) i t _ _ (bounds_at_Count m t p) (value_at_Count m c i p) (λ b told.
       let port = map_some (λ q. bounds.Number (pos q.low) (pos q.high)) (port_of m t p) b told in
       let links = held_links m c is s i x at t below p port.0 port.1 in
       subst (λ b. IsWithinBounds b (found.Number (pos (length (links_at_instance m c p i))))) port.2
@@ -85,7 +85,7 @@ module _ (m : Model) (c : List Instance) (is : IsDeclared m) (s : HasShape m c) 
 
   -- no more of a port's links lead to a type than the port allows
   held_count_of : (p u : ℕ) → IsHeld (roll-Expr (CountOf p u))
-  held_count_of p u i t x at below = held_by (roll-Expr (CountOf p u)) i t _ _ (bounds_at-CountOf m t p u) (value_at-CountOf m c i p u) (λ b told.
+  held_count_of p u i t x at below = held_by (roll-Expr (CountOf p u)) i t _ _ (bounds_at_CountOf m t p u) (value_at_CountOf m c i p u) (λ b told.
       let port = map_some (λ q. bounds.Number (pos 0) (pos q.high)) (port_of m t p) b (if_some (is_type m u) _ b told) in
       let links = held_links m c is s i x at t below p port.0 port.1 in
       let few = count_by-le-length (is_under m c u) (links_at_instance m c p i) in
@@ -94,7 +94,7 @@ module _ (m : Model) (c : List Instance) (is : IsDeclared m) (s : HasShape m c) 
 
   -- the sum of an attribute's values over a port's links
   held_sum : (p a : ℕ) → IsHeld (roll-Expr (Sum p a))
-  held_sum p a i t x at below = held_by (roll-Expr (Sum p a)) i t _ _ (bounds_at-Sum m t p a) (value_at-Sum m c i p a) (λ b told.
+  held_sum p a i t x at below = held_by (roll-Expr (Sum p a)) i t _ _ (bounds_at_Sum m t p a) (value_at_Sum m c i p a) (λ b told.
       let port = and_then_some (λ q. option_and_then (of_range (sum_of_some q.low q.high)) (attribute_of m q.target a)) (port_of m t p) b told in
       let q = port.0 in
       let attribute = and_then_some (of_range (sum_of_some q.low q.high)) (attribute_of m q.target a) b port.2 in
@@ -106,7 +106,7 @@ module _ (m : Model) (c : List Instance) (is : IsDeclared m) (s : HasShape m c) 
 
   -- the sum of an attribute's values over all instances under a type
   held_total : (u a : ℕ) → IsHeld (roll-Expr (Total u a))
-  held_total u a i t x at below = held_by (roll-Expr (Total u a)) i t _ _ (bounds_at-Total m t u a) (value_at-Total m c i u a) (λ b told.
+  held_total u a i t x at below = held_by (roll-Expr (Total u a)) i t _ _ (bounds_at_Total m t u a) (value_at_Total m c i u a) (λ b told.
       let attribute = and_then_some (of_range (sum_of_some 0 m.instances)) (attribute_of m u a) b told in
       let values = map (λ x. value_of m x a) (filter (under m u) c) in
       let many : length values ≡ count_by (under m u) c = length-map (filter (under m u) c) (λ x. value_of m x a) ∙ length-filter (under m u) c in
@@ -114,26 +114,26 @@ module _ (m : Model) (c : List Instance) (is : IsDeclared m) (s : HasShape m c) 
 
   -- the number of instances under a type
   held_number : (u : ℕ) → IsHeld (roll-Expr (Number u))
-  held_number u i t x at below = held_by (roll-Expr (Number u)) i t _ _ (bounds_at-Number m t u) (value_at-Number m c i u) (λ b told.
+  held_number u i t x at below = held_by (roll-Expr (Number u)) i t _ _ (bounds_at_Number m t u) (value_at_Number m c i u) (λ b told.
       let some = if_some (is_type m u) (Some (bounds.Number (pos 0) (pos m.instances))) b told in
       subst (λ b. IsWithinBounds b (found.Number (pos (count_by (under m u) c)))) (same_Some _ b some)
       (omega (arith, ints), omega (arith, ints, few_under u)))
 
   -- the sum of expressions that lie within their bounds
   held_add : (es : List ((e : Expr) × IsHeld e)) → IsHeld (roll-Expr (Add (map (λ e. e.0) es)))
-  held_add es i t x at below = held_by (roll-Expr (Add (map (λ e. e.0) es))) i t _ _ (bounds_at-Add m t (map (λ e. e.0) es)) (value_at-Add m c i (map (λ e. e.0) es)) (λ b told.
+  held_add es i t x at below = held_by (roll-Expr (Add (map (λ e. e.0) es))) i t _ _ (bounds_at_Add m t (map (λ e. e.0) es)) (value_at_Add m c i (map (λ e. e.0) es)) (λ b told.
       let parts = map (λ (e : (e : Expr) × IsHeld e). e.0) es in
       let some = if_some (has_arguments parts) (sum_of_all (pos 0) (pos 0) (map (λ e. bounds_at m e t) parts)) b told in
       sum_within (λ e. e.0) (λ e. bounds_at m e t) (λ e. value_at m c i e) (λ e. e.1 i t x at below) es (pos 0) (pos 0) (pos 0) b (omega (arith, ints), omega (arith, ints)) some)
 
   -- the difference of two of them
   held_sub : (e f : Expr) → IsHeld e → IsHeld f → IsHeld (roll-Expr (Sub e f))
-  held_sub e f first second i t x at below = held_by (roll-Expr (Sub e f)) i t _ _ (bounds_at-Sub m t e f) (value_at-Sub m c i e f) (λ b told.
+  held_sub e f first second i t x at below = held_by (roll-Expr (Sub e f)) i t _ _ (bounds_at_Sub m t e f) (value_at_Sub m c i e f) (λ b told.
       difference_within (bounds_at m e t) (bounds_at m f t) (value_at m c i e) (value_at m c i f) b (first i t x at below) (second i t x at below) told)
 
   -- a multiple of one
   held_times : (k : ℤ) (e : Expr) → IsHeld e → IsHeld (roll-Expr (Times k e))
-  held_times k e each i t x at below = held_by (roll-Expr (Times k e)) i t _ _ (bounds_at-Times m t k e) (value_at-Times m c i k e) (λ b told.
+  held_times k e each i t x at below = held_by (roll-Expr (Times k e)) i t _ _ (bounds_at_Times m t k e) (value_at_Times m c i k e) (λ b told.
       multiple_within k (bounds_at m e t) (value_at m c i e) b (each i t x at below) told)
 
   -- A truth lies within the bounds of each other form.
@@ -143,36 +143,36 @@ module _ (m : Model) (c : List Instance) (is : IsDeclared m) (s : HasShape m c) 
 
   -- a comparison is a truth
   held_cmp : (r : Relation) (e f : Expr) → IsHeld (roll-Expr (Cmp r e f))
-  held_cmp r e f = held_truth (roll-Expr (Cmp r e f)) _ _ (λ i. value_at-Cmp m c i r e f) (λ t. bounds_at-Cmp m t r e f) (λ t b told.
+  held_cmp r e f = held_truth (roll-Expr (Cmp r e f)) _ _ (λ i. value_at_Cmp m c i r e f) (λ t. bounds_at_Cmp m t r e f) (λ t b told.
       comparison_told (bounds_at m e t) (bounds_at m f t) b told)
 
   -- so is the test of a word
   held_is : (a w : ℕ) → IsHeld (roll-Expr (Is a w))
-  held_is a w = held_truth (roll-Expr (Is a w)) _ _ (λ i. value_at-Is m c i a w) (λ t. bounds_at-Is m t a w) (λ t b told.
+  held_is a w = held_truth (roll-Expr (Is a w)) _ _ (λ i. value_at_Is m c i a w) (λ t. bounds_at_Is m t a w) (λ t b told.
       same_Some bounds.Truth b (if_some _ (Some bounds.Truth) b told))
 
   -- and that of a type
   held_kind : (u : ℕ) → IsHeld (roll-Expr (Kind u))
-  held_kind u = held_truth (roll-Expr (Kind u)) _ _ (λ i. value_at-Kind m c i u) (λ t. bounds_at-Kind m t u) (λ t b told.
+  held_kind u = held_truth (roll-Expr (Kind u)) _ _ (λ i. value_at_Kind m c i u) (λ t. bounds_at_Kind m t u) (λ t b told.
       same_Some bounds.Truth b (if_some (is_type m u) (Some bounds.Truth) b told))
 
   -- and what all of some expressions tell together
   held_and : (es : List Expr) → IsHeld (roll-Expr (And es))
-  held_and es = held_truth (roll-Expr (And es)) _ _ (λ i. value_at-And m c i es) (λ t. bounds_at-And m t es) (λ t b told.
+  held_and es = held_truth (roll-Expr (And es)) _ _ (λ i. value_at_And m c i es) (λ t. bounds_at_And m t es) (λ t b told.
       truth_told (map (λ e. bounds_at m e t) es) b (if_some (has_arguments es) (truth_of (map (λ e. bounds_at m e t) es)) b told))
 
   -- and what any of them tells
   held_or : (es : List Expr) → IsHeld (roll-Expr (Or es))
-  held_or es = held_truth (roll-Expr (Or es)) _ _ (λ i. value_at-Or m c i es) (λ t. bounds_at-Or m t es) (λ t b told.
+  held_or es = held_truth (roll-Expr (Or es)) _ _ (λ i. value_at_Or m c i es) (λ t. bounds_at_Or m t es) (λ t b told.
       truth_told (map (λ e. bounds_at m e t) es) b (if_some (has_arguments es) (truth_of (map (λ e. bounds_at m e t) es)) b told))
 
   -- and a negation
   held_not : (e : Expr) → IsHeld (roll-Expr (Not e))
-  held_not e = held_truth (roll-Expr (Not e)) _ _ (λ i. value_at-Not m c i e) (λ t. bounds_at-Not m t e) (λ t b told. truth_told (bounds_at m e t ∷ []) b told)
+  held_not e = held_truth (roll-Expr (Not e)) _ _ (λ i. value_at_Not m c i e) (λ t. bounds_at_Not m t e) (λ t b told. truth_told (bounds_at m e t ∷ []) b told)
 
   -- and an implication
   held_if : (e f : Expr) → IsHeld (roll-Expr (If e f))
-  held_if e f = held_truth (roll-Expr (If e f)) _ _ (λ i. value_at-If m c i e f) (λ t. bounds_at-If m t e f) (λ t b told. truth_told (bounds_at m e t ∷ bounds_at m f t ∷ []) b told)
+  held_if e f = held_truth (roll-Expr (If e f)) _ _ (λ i. value_at_If m c i e f) (λ t. bounds_at_If m t e f) (λ t b told. truth_told (bounds_at m e t ∷ bounds_at m f t ∷ []) b told)
 
   -- what is told of all links of a port, or of any, is a truth
   linked_told : (p : ℕ) (e : Expr) (t : ℕ) (b : Bounds) → option_and_then (λ q. truth_of (bounds_at m e q.target ∷ [])) (port_of m t p) ≡ Some b → bounds.Truth ≡ b
@@ -182,11 +182,11 @@ module _ (m : Model) (c : List Instance) (is : IsDeclared m) (s : HasShape m c) 
 
   -- what an expression tells at all links of a port is a truth
   held_all_linked : (p : ℕ) (e : Expr) → IsHeld (roll-Expr (All p e))
-  held_all_linked p e = held_truth (roll-Expr (All p e)) _ _ (λ i. value_at-All m c i p e) (λ t. bounds_at-All m t p e) (linked_told p e)
+  held_all_linked p e = held_truth (roll-Expr (All p e)) _ _ (λ i. value_at_All m c i p e) (λ t. bounds_at_All m t p e) (linked_told p e)
 
   -- so is what it tells at any
   held_any_linked : (p : ℕ) (e : Expr) → IsHeld (roll-Expr (Any p e))
-  held_any_linked p e = held_truth (roll-Expr (Any p e)) _ _ (λ i. value_at-Any m c i p e) (λ t. bounds_at-Any m t p e) (linked_told p e)
+  held_any_linked p e = held_truth (roll-Expr (Any p e)) _ _ (λ i. value_at_Any m c i p e) (λ t. bounds_at_Any m t p e) (linked_told p e)
 
   -- each form holds where its arguments do
   held_form : (f : Expr-F ((e : Expr) × IsHeld e)) → IsHeld (roll-Expr (map-Expr ((e : Expr) × IsHeld e) Expr (λ e. e.0) f))

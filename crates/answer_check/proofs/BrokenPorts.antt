@@ -15,22 +15,22 @@ use Rattle.answer_check.specs.declared.links.PortTest.TheVariants.{Leads, OnTarg
 use Rattle.answer_check.specs.Breaks.{Breaks, HasPort, too_many, other_root, bad_value, no_instance, off_target, bad_number, shared_part, misnumbered, bad_count, false_rule}
 use Rattle.answer_check.specs.Finds.{BreaksAt, FindsItem}
 use Rattle.answer_check.specs.PortTests.{code_of, is_off, breaks_port}
-use Rattle.answer_check.proofs.Items.{Passes, finds-position, finds-same}
+use Rattle.answer_check.proofs.Items.{Passes, finds_position, finds_same}
 use Rattle.answer_check.proofs.FewItems.{few_ports}
-use Rattle.prod_model.proofs.ListLaws.{slice_get-zip}
-use Rattle.answer_check.proofs.ZippedLists.{zip-first, zip-second}
+use Rattle.prod_model.proofs.ListLaws.{slice_get_zip}
+use Rattle.answer_check.proofs.ZippedLists.{zip_first, zip_second}
 
-not-true : (b : Bool) → not b ≡ true → b ≡ false
-not-true b h = grind arith
+not_true : (b : Bool) → not b ≡ true → b ≡ false
+not_true b h = grind arith
 
-not-from : (b : Bool) → b ≡ false → not b ≡ true
-not-from b h = ap not h
+not_from : (b : Bool) → b ≡ false → not b ≡ true
+not_from b h = ap not h
 
-contains-at : (xs : List ℕ) (k x : ℕ) → slice_get xs k ≡ Some x → Contains xs x
-contains-at xs k x at = (k, slice_get_within xs k x at, get_or_from_slice_get xs k x x at)
+contains_at : (xs : List ℕ) (k x : ℕ) → slice_get xs k ≡ Some x → Contains xs x
+contains_at xs k x at = (k, slice_get_within xs k x at, get_or_from_slice_get xs k x x at)
 
-at-contained : (xs : List ℕ) (x : ℕ) (among : Contains xs x) → slice_get xs among.0 ≡ Some x
-at-contained xs x among = slice_get-get_or xs among.0 x among.1 ∙ ap Some among.2
+at_contained : (xs : List ℕ) (x : ℕ) (among : Contains xs x) → slice_get xs among.0 ≡ Some x
+at_contained xs x among = slice_get-get_or xs among.0 x among.1 ∙ ap Some among.2
 
 module _ (m : Model) (c : List Instance) (i : ℕ) (x : Instance) (stands : slice_get c i ≡ Some x) where
   abbrev Test : PortTest → PortAt × List ℕ → Bool
@@ -40,90 +40,90 @@ module _ (m : Model) (c : List Instance) (i : ℕ) (x : Instance) (stands : slic
   pairs = zip (ports_at m x.kind) x.links
 
   port_at : (code k : ℕ) (pair : PortAt × List ℕ) → slice_get pairs k ≡ Some pair → HasPort m c (record { code = code; instance = i; item = k }) pair.0 pair.1
-  port_at code k pair at = record { x = x; stands = stands; port = zip-first (ports_at m x.kind) x.links k pair at; links_there = zip-second (ports_at m x.kind) x.links k pair at }
+  port_at code k pair at = record { x = x; stands = stands; port = zip_first (ports_at m x.kind) x.links k pair at; links_there = zip_second (ports_at m x.kind) x.links k pair at }
 
   -- what passes a test at a place breaks the configuration there
-  pub breaks-from : (test : PortTest) (k : ℕ) → Passes (Test test) pairs k → BreaksAt m c (code_of test) i k
-  breaks-from Leads k passing =
+  pub breaks_from : (test : PortTest) (k : ℕ) → Passes (Test test) pairs k → BreaksAt m c (code_of test) i k
+  breaks_from Leads k passing =
       let port = port_at 4 k passing.element passing.there in
       let found = list_any_at (λ j. nat_le (length c) j) passing.element.1 passing.passes in
-      no_instance refl passing.element.0 passing.element.1 found.1 port (contains-at passing.element.1 found.0 found.1 found.2) (leb-true (length c) found.1 found.3)
-  breaks-from OnTarget k passing =
+      no_instance refl passing.element.0 passing.element.1 found.1 port (contains_at passing.element.1 found.0 found.1 found.2) (leb-true (length c) found.1 found.3)
+  breaks_from OnTarget k passing =
       let port = port_at 5 k passing.element passing.there in
       let found = list_any_at (is_off m c passing.element.0.target) passing.element.1 passing.passes in
       let other = option_map_or_at (λ y. not (under m passing.element.0.target y)) (slice_get c found.1) found.3 in
-      off_target refl passing.element.0 passing.element.1 found.1 other.0 port (contains-at passing.element.1 found.0 found.1 found.2) other.1 (not-true _ other.2)
-  breaks-from Number k passing =
-      bad_number refl passing.element.0 passing.element.1 (port_at 6 k passing.element passing.there) (not-true _ passing.passes)
+      off_target refl passing.element.0 passing.element.1 found.1 other.0 port (contains_at passing.element.1 found.0 found.1 found.2) other.1 (not_true _ other.2)
+  breaks_from Number k passing =
+      bad_number refl passing.element.0 passing.element.1 (port_at 6 k passing.element passing.there) (not_true _ passing.passes)
 
   same_links : (code k : ℕ) (p : PortAt) (links : List ℕ) → HasPort m c (record { code = code; instance = i; item = k }) p links → slice_get pairs k ≡ Some (p, links)
   same_links code k p links port =
       let same : port.x ≡ x = same_Some port.x x (sym port.stands ∙ stands) in
       let IsPort : Instance → Type 0 = λ y. slice_get (ports_at m y.kind) k ≡ Some p in
       let HasLinks : Instance → Type 0 = λ y. slice_get y.links k ≡ Some links in
-      slice_get-zip (ports_at m x.kind) x.links k p links (subst IsPort same port.port) (subst HasLinks same port.links_there)
+      slice_get_zip (ports_at m x.kind) x.links k p links (subst IsPort same port.port) (subst HasLinks same port.links_there)
 
-  passes-from : (test : PortTest) (code k : ℕ) (p : PortAt) (links : List ℕ) → HasPort m c (record { code = code; instance = i; item = k }) p links
+  passes_from : (test : PortTest) (code k : ℕ) (p : PortAt) (links : List ℕ) → HasPort m c (record { code = code; instance = i; item = k }) p links
       → breaks_port m c test p links ≡ true → Passes (Test test) pairs k
-  passes-from test code k p links port passes = record { element = (p, links); there = same_links code k p links port; passes = passes }
+  passes_from test code k p links port passes = record { element = (p, links); there = same_links code k p links port; passes = passes }
 
   leads : (code k : ℕ) (p : PortAt) (links : List ℕ) (j : ℕ) → HasPort m c (record { code = code; instance = i; item = k }) p links → Contains links j → length c ≤ j → Passes (Test Leads) pairs k
   leads code k p links j port among outside =
-      passes-from Leads code k p links port (list_any_from (λ n. nat_le (length c) n) links among.0 j (at-contained links j among) (le-leb (length c) j outside))
+      passes_from Leads code k p links port (list_any_from (λ n. nat_le (length c) n) links among.0 j (at_contained links j among) (le-leb (length c) j outside))
 
   on_target : (code k : ℕ) (p : PortAt) (links : List ℕ) (j : ℕ) (y : Instance) → HasPort m c (record { code = code; instance = i; item = k }) p links → Contains links j
       → slice_get c j ≡ Some y → under m p.target y ≡ false → Passes (Test OnTarget) pairs k
   on_target code k p links j y port among there off =
-      passes-from OnTarget code k p links port (list_any_from (is_off m c p.target) links among.0 j (at-contained links j among)
-      (option_map_or_from (λ z. not (under m p.target z)) (slice_get c j) y there (not-from _ off)))
+      passes_from OnTarget code k p links port (list_any_from (is_off m c p.target) links among.0 j (at_contained links j among)
+      (option_map_or_from (λ z. not (under m p.target z)) (slice_get c j) y there (not_from _ off)))
 
   -- what breaks the configuration at a place passes the test there
-  pub passes-broken : (test : PortTest) (k : ℕ) → BreaksAt m c (code_of test) i k → Passes (Test test) pairs k
-  passes-broken Leads k (no_instance is p links j port among outside) = leads 4 k p links j port among outside
-  passes-broken Leads k (too_many is _ _ _) = absurd (omega arith)
-  passes-broken Leads k (other_root is _ _ _) = absurd (omega arith)
-  passes-broken Leads k (bad_value is _ _ _ _ _ _ _) = absurd (omega arith)
-  passes-broken Leads k (off_target is _ _ _ _ _ _ _ _) = absurd (omega arith)
-  passes-broken Leads k (bad_number is _ _ _ _) = absurd (omega arith)
-  passes-broken Leads k (shared_part is _ _ _) = absurd (omega arith)
-  passes-broken Leads k (misnumbered is _ _ _ _) = absurd (omega arith)
-  passes-broken Leads k (bad_count is _ _ _ _) = absurd (omega arith)
-  passes-broken Leads k (false_rule is _ _ _ _ _ _) = absurd (omega arith)
-  passes-broken OnTarget k (off_target is p links j y port among there off) = on_target 5 k p links j y port among there off
-  passes-broken OnTarget k (no_instance is _ _ _ _ _ _) = absurd (omega arith)
-  passes-broken OnTarget k (too_many is _ _ _) = absurd (omega arith)
-  passes-broken OnTarget k (other_root is _ _ _) = absurd (omega arith)
-  passes-broken OnTarget k (bad_value is _ _ _ _ _ _ _) = absurd (omega arith)
-  passes-broken OnTarget k (bad_number is _ _ _ _) = absurd (omega arith)
-  passes-broken OnTarget k (shared_part is _ _ _) = absurd (omega arith)
-  passes-broken OnTarget k (misnumbered is _ _ _ _) = absurd (omega arith)
-  passes-broken OnTarget k (bad_count is _ _ _ _) = absurd (omega arith)
-  passes-broken OnTarget k (false_rule is _ _ _ _ _ _) = absurd (omega arith)
-  passes-broken Number k (bad_number is p links port wrong) = passes-from Number 6 k p links port (not-from _ wrong)
-  passes-broken Number k (no_instance is _ _ _ _ _ _) = absurd (omega arith)
-  passes-broken Number k (off_target is _ _ _ _ _ _ _ _) = absurd (omega arith)
-  passes-broken Number k (too_many is _ _ _) = absurd (omega arith)
-  passes-broken Number k (other_root is _ _ _) = absurd (omega arith)
-  passes-broken Number k (bad_value is _ _ _ _ _ _ _) = absurd (omega arith)
-  passes-broken Number k (shared_part is _ _ _) = absurd (omega arith)
-  passes-broken Number k (misnumbered is _ _ _ _) = absurd (omega arith)
-  passes-broken Number k (bad_count is _ _ _ _) = absurd (omega arith)
-  passes-broken Number k (false_rule is _ _ _ _ _ _) = absurd (omega arith)
+  pub passes_broken : (test : PortTest) (k : ℕ) → BreaksAt m c (code_of test) i k → Passes (Test test) pairs k
+  passes_broken Leads k (no_instance is p links j port among outside) = leads 4 k p links j port among outside
+  passes_broken Leads k (too_many is _ _ _) = absurd (omega arith)
+  passes_broken Leads k (other_root is _ _ _) = absurd (omega arith)
+  passes_broken Leads k (bad_value is _ _ _ _ _ _ _) = absurd (omega arith)
+  passes_broken Leads k (off_target is _ _ _ _ _ _ _ _) = absurd (omega arith)
+  passes_broken Leads k (bad_number is _ _ _ _) = absurd (omega arith)
+  passes_broken Leads k (shared_part is _ _ _) = absurd (omega arith)
+  passes_broken Leads k (misnumbered is _ _ _ _) = absurd (omega arith)
+  passes_broken Leads k (bad_count is _ _ _ _) = absurd (omega arith)
+  passes_broken Leads k (false_rule is _ _ _ _ _ _) = absurd (omega arith)
+  passes_broken OnTarget k (off_target is p links j y port among there off) = on_target 5 k p links j y port among there off
+  passes_broken OnTarget k (no_instance is _ _ _ _ _ _) = absurd (omega arith)
+  passes_broken OnTarget k (too_many is _ _ _) = absurd (omega arith)
+  passes_broken OnTarget k (other_root is _ _ _) = absurd (omega arith)
+  passes_broken OnTarget k (bad_value is _ _ _ _ _ _ _) = absurd (omega arith)
+  passes_broken OnTarget k (bad_number is _ _ _ _) = absurd (omega arith)
+  passes_broken OnTarget k (shared_part is _ _ _) = absurd (omega arith)
+  passes_broken OnTarget k (misnumbered is _ _ _ _) = absurd (omega arith)
+  passes_broken OnTarget k (bad_count is _ _ _ _) = absurd (omega arith)
+  passes_broken OnTarget k (false_rule is _ _ _ _ _ _) = absurd (omega arith)
+  passes_broken Number k (bad_number is p links port wrong) = passes_from Number 6 k p links port (not_from _ wrong)
+  passes_broken Number k (no_instance is _ _ _ _ _ _) = absurd (omega arith)
+  passes_broken Number k (off_target is _ _ _ _ _ _ _ _) = absurd (omega arith)
+  passes_broken Number k (too_many is _ _ _) = absurd (omega arith)
+  passes_broken Number k (other_root is _ _ _) = absurd (omega arith)
+  passes_broken Number k (bad_value is _ _ _ _ _ _ _) = absurd (omega arith)
+  passes_broken Number k (shared_part is _ _ _) = absurd (omega arith)
+  passes_broken Number k (misnumbered is _ _ _ _) = absurd (omega arith)
+  passes_broken Number k (bad_count is _ _ _ _) = absurd (omega arith)
+  passes_broken Number k (false_rule is _ _ _ _ _ _) = absurd (omega arith)
 
   -- the first port that breaks a test
   pub finds_port : (test : PortTest) (o : Option ℕ) → o ≡ position (Test test) pairs → FindsItem (BreaksAt m c (code_of test) i) o
-  finds_port test o is = finds-same (Passes (Test test) pairs) (BreaksAt m c (code_of test) i) o (breaks-from test) (passes-broken test) (finds-position (Test test) pairs o is)
+  finds_port test o is = finds_same (Passes (Test test) pairs) (BreaksAt m c (code_of test) i) o (breaks_from test) (passes_broken test) (finds_position (Test test) pairs o is)
 
   -- a port's place is small
   pub few_places : IsValid m → (test : PortTest) (k : ℕ) → Some k ≡ position (Test test) pairs → k < 16
   few_places valid test k is =
-      let passing = (finds-position (Test test) pairs (Some k) is).0 in
-      let within : k < length (ports_at m x.kind) = slice_get_within (ports_at m x.kind) k passing.element.0 (zip-first (ports_at m x.kind) x.links k passing.element passing.there) in
+      let passing = (finds_position (Test test) pairs (Some k) is).0 in
+      let within : k < length (ports_at m x.kind) = slice_get_within (ports_at m x.kind) k passing.element.0 (zip_first (ports_at m x.kind) x.links k passing.element passing.there) in
       omega (arith, few_ports m x.kind valid)
 
 -- what breaks a test of ports at an instance stands at an instance
-pub broken-within : (m : Model) (c : List Instance) (test : PortTest) (i k : ℕ) → BreaksAt m c (code_of test) i k → i < length c
-broken-within m c test i k broken = within (code_of test) (ports_only test) broken
+pub broken_within : (m : Model) (c : List Instance) (test : PortTest) (i k : ℕ) → BreaksAt m c (code_of test) i k → i < length c
+broken_within m c test i k broken = within (code_of test) (ports_only test) broken
   where
     within : (code : ℕ) → (4 ≤ code) × (code ≤ 6) → Breaks m c (record { code = code; instance = i; item = k }) → i < length c
     within code only (no_instance is p links j port among outside) = slice_get_within c i port.x port.stands

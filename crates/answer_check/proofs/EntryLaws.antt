@@ -9,16 +9,16 @@ use Rattle.prod_model.specs.declared.model.TypeDecl.{TypeDecl}
 use Rattle.prod_model.specs.Names.{same_text, is_distinct}
 use Rattle.prod_model.specs.Forest.{line}
 use Rattle.prod_model.specs.Taxonomy.{Named, declarations_of, new_declarations, extended_entries, entries_of}
-use Rattle.prod_model.proofs.NameLaws.{same_text-refl}
-use Rattle.prod_model.proofs.ForestLines.{HasNoCycle, HasParent, line-parent}
+use Rattle.prod_model.proofs.NameLaws.{same_text_refl}
+use Rattle.prod_model.proofs.ForestLines.{HasNoCycle, HasParent, line_parent}
 use Rattle.prod_model.proofs.EntryLaws as Entries
-use Rattle.answer_check.proofs.LineLaws.{no_type, alone, below, line-of, along_lines}
+use Rattle.answer_check.proofs.LineLaws.{no_type, alone, below, line_of, along_lines}
 
 -- ---- names
 
 -- texts that pass the test are equal
-pub same_text-same : (n k : List ℕ) → IsTrue (same_text n k) → n ≡ k
-same_text-same n k same = (bytes_decides n k).0 same
+pub same_text_same : (n k : List ℕ) → IsTrue (same_text n k) → n ≡ k
+same_text_same n k same = (bytes_decides n k).0 same
 
 -- a name that passes a test is none of those that do not
 apart_from : (p : List ℕ → Bool) (n : List ℕ) (ks : List (List ℕ)) → p n ≡ true → list_all (λ k. not (p k)) ks ≡ true → list_any (same_text n) ks ≡ false
@@ -26,7 +26,7 @@ apart_from p n [] is each = refl
 apart_from p n (k ∷ ks) is each = by (same_text n k) refl (apart_from p n ks is (and_parts _ _ each).1)
   where
     by : (b : Bool) → same_text n k ≡ b → list_any (same_text n) ks ≡ false → (b || list_any (same_text n) ks) ≡ false
-    by true same rest = absurd (false≢true (sym (ap not (ap p (sym (same_text-same n k same)) ∙ is)) ∙ (and_parts _ _ each).0))
+    by true same rest = absurd (false≢true (sym (ap not (ap p (sym (same_text_same n k same)) ∙ is)) ∙ (and_parts _ _ each).0))
     by false other rest = rest
 
 -- names that pass a test, none twice, and names that do not, none twice: no name stands twice among them all
@@ -99,18 +99,18 @@ module _ {D A : Type 0} (declared : TypeDecl → List D) (name_of : D → List �
 
   -- a type more in front extends them
   entries_cons : (u : ℕ) (us : List ℕ) → entries_along (u ∷ us) ≡ extended_entries declared name_of made narrowed types (entries_along us) u
-  entries_cons u us = Entries.entries-cons declared name_of made narrowed types u us
+  entries_cons u us = Entries.entries_along_cons declared name_of made narrowed types u us
 
   -- what a type has is what its parent has, extended
   pub entries_parent : HasNoCycle types → (t p : ℕ) → HasParent types t p
       → entries_of declared name_of made narrowed types t ≡ extended_entries declared name_of made narrowed types (entries_of declared name_of made narrowed types p) t
-  entries_parent forest t p above = ap entries_along (line-parent types forest t p above) ∙ entries_cons t (line types p)
+  entries_parent forest t p above = ap entries_along (line_parent types forest t p above) ∙ entries_cons t (line types p)
 
   -- each declaration of a type has the name of one
   declared_itself : (ds : List D) → list_all (λ n. list_any (λ e. same_text n (name_of e)) ds) (map name_of ds) ≡ true
   declared_itself [] = refl
   declared_itself (d ∷ ds) =
-      let self = same_text-refl (name_of d) in
+      let self = same_text_refl (name_of d) in
       let rest = named_more name_of (d ∷ []) ds (map name_of ds) (declared_itself ds) in
       and_from _ _ (or_left _ _ self) rest
 
@@ -124,7 +124,7 @@ module _ {D A : Type 0} (declared : TypeDecl → List D) (name_of : D → List �
       let is_new : new_declarations declared name_of types u ≡ new =
       ap (λ l. filter (λ d. not (is_declared declared name_of types (drop 1 l) (name_of d))) ds) is in
       let names : map (λ e. e.name) (entries_along (u ∷ us)) ≡ map (λ e. e.name) (entries_along us) ++ map name_of new =
-      ap (map (λ e. e.name)) (entries_cons u us) ∙ Entries.names-extended declared name_of made narrowed types (entries_along us) u
+      ap (map (λ e. e.name)) (entries_cons u us) ∙ Entries.names_extended declared name_of made narrowed types (entries_along us) u
       ∙ ap (λ l. map (λ e. e.name) (entries_along us) ++ map name_of l) is_new in
       let old = map (λ (e : Named A). e.name) (entries_along us) in
       let all = flat_map (declarations_of declared name_of types) us in
@@ -141,7 +141,7 @@ module _ {D A : Type 0} (declared : TypeDecl → List D) (name_of : D → List �
   pub names_distinct : HasNoCycle types → ((u : ℕ) → IsTrue (is_distinct (map name_of (declarations_of declared name_of types u)))) → (t : ℕ)
       → IsTrue (is_distinct (map (λ e. e.name) (entries_of declared name_of made narrowed types t)))
   names_distinct forest own t = (along_lines types forest (λ t. Good (line types t)) (λ t each.
-      elim (line-of types forest t) [
+      elim (line_of types forest t) [
         | no_type is ↦ subst Good (sym is) nothing
         | alone is ↦ subst Good (sym is) (names_more t [] (own t) is nothing)
         | below p above is ↦ subst Good (sym is) (names_more t (line types p) (own t) is (each p above))

@@ -23,13 +23,13 @@ use Rattle.config_value.proofs.Places.{list_all_at}
 use Rattle.config_value.proofs.ShapedSentences.{shaped_sentences}
 use Rattle.answer_check.specs.Breaks.{false_rule}
 use Rattle.answer_check.specs.Finds.{BreaksAt}
-use Rattle.answer_check.proofs.BreakParts.{false_rule-parts}
+use Rattle.answer_check.proofs.BreakParts.{false_rule_parts}
 use Rattle.answer_check.specs.Faultless.{HasBoundsAt}
 
-is_truth-told : (o : Option Bounds) → is_truth o ≡ true → o ≡ Some Truth
-is_truth-told (Some Truth) is = refl
-is_truth-told (Some (Number low high)) is = absurd cc
-is_truth-told None is = absurd cc
+is_truth_told : (o : Option Bounds) → is_truth o ≡ true → o ≡ Some Truth
+is_truth_told (Some Truth) is = refl
+is_truth_told (Some (Number low high)) is = absurd cc
+is_truth_told None is = absurd cc
 
 -- a truth at a type has bounds at an instance under it
 pub bounded : (m : Model) (c : List Instance) (i : ℕ) (e : Expr) (t : ℕ) (x : Instance) → slice_get c i ≡ Some x → IsTrue (under m t x) → IsTrue (is_truth_at m t e) → HasBoundsAt m c i e
@@ -39,7 +39,7 @@ bounded m c i e t x stands under truth = record {
   kind = t;
   under = under;
   bounds = Truth;
-  told = is_truth-told (bounds_at m e t) (and_parts (nat_le (nesting e) most_nesting) (is_truth (bounds_at m e t)) truth).1;
+  told = is_truth_told (bounds_at m e t) (and_parts (nat_le (nesting e) most_nesting) (is_truth (bounds_at m e t)) truth).1;
 }
 
 pub faultless_rule : (m : Model) (k : ℕ) (r : Rule) → IsValid m → slice_get m.rules k ≡ Some r → IsTrue (is_truth_at m r.kind r.holds)
@@ -70,16 +70,16 @@ module _ (m : Model) (c : List Instance) (i k : ℕ) (r : Rule) (rule : slice_ge
       by_instance (Some x) stands = false_rule refl x r stands rule (sym (ap (λ o. option_map_or (under m r.kind) o false) stands) ∙ below) fails
 
   -- and nowhere else
-  pub rule_broken-parts : BreaksAt m c 10 i k → (is_under m c r.kind i ≡ true) × (is_true_at m c i r.holds ≡ false)
-  rule_broken-parts broken =
-      let parts = false_rule-parts m c 10 i k refl broken in
+  pub rule_broken_parts : BreaksAt m c 10 i k → (is_under m c r.kind i ≡ true) × (is_true_at m c i r.holds ≡ false)
+  rule_broken_parts broken =
+      let parts = false_rule_parts m c 10 i k refl broken in
       let same : parts.1 ≡ r = same_Some parts.1 r (sym parts.3 ∙ rule) in (
         ap (λ o. option_map_or (under m r.kind) o false) parts.2 ∙ ap (λ s. under m s.kind parts.0) (sym same) ∙ parts.4,
         ap (λ s. is_true_at m c i s.holds) (sym same) ∙ parts.5,
       )
 
-pub rule-within : (m : Model) (c : List Instance) (i k : ℕ) → BreaksAt m c 10 i k → i < length c
-rule-within m c i k broken = let parts = false_rule-parts m c 10 i k refl broken in slice_get_within c i parts.0 parts.2
+pub rule_within : (m : Model) (c : List Instance) (i k : ℕ) → BreaksAt m c 10 i k → i < length c
+rule_within m c i k broken = let parts = false_rule_parts m c 10 i k refl broken in slice_get_within c i parts.0 parts.2
 
-pub rule-item_within : (m : Model) (c : List Instance) (i k : ℕ) → BreaksAt m c 10 i k → k < length m.rules
-rule-item_within m c i k broken = let parts = false_rule-parts m c 10 i k refl broken in slice_get_within m.rules k parts.1 parts.3
+pub rule_item_within : (m : Model) (c : List Instance) (i k : ℕ) → BreaksAt m c 10 i k → k < length m.rules
+rule_item_within m c i k broken = let parts = false_rule_parts m c 10 i k refl broken in slice_get_within m.rules k parts.1 parts.3

@@ -9,7 +9,7 @@ use Rattle.prod_model.specs.Taxonomy.{attributes_at, ports_at}
 use Rattle.prod_model.specs.Valid.{IsValid, has_room, has_room_at, has_short_lists, has_numbers_in_limits}
 use Rattle.config_value.specs.declared.configuration.Instance.{Instance}
 use Rattle.config_value.specs.Spelled.{is_spelled}
-use Rattle.config_value.proofs.Places.{list_all_at, slice_get-range_with_len, is_between_at}
+use Rattle.config_value.proofs.Places.{list_all_at, slice_get_range_with_len, is_between_at}
 use Rattle.config_value.specs.Shaped.{is_shaped}
 use Rattle.config_value.specs.Value.{under}
 use Rattle.std.proofs.lemmas.List.Sums.{count_by-le-length}
@@ -23,7 +23,7 @@ few_instances m c spelled = (is_between_at _ _ _ (and_parts _ _ (and_parts _ _ s
 room_at : (m : Model) (t : ℕ) → IsValid m → t < length m.types → IsTrue (has_room_at m t)
 unfolding has_room
 room_at m t valid within =
-    list_all_at (has_room_at m) (range_with_len 0 (length m.types)) valid.declared.taxonomy.room t t (slice_get-range_with_len 0 (length m.types) t within ∙ ap Some (zero-add t))
+    list_all_at (has_room_at m) (range_with_len 0 (length m.types)) valid.declared.taxonomy.room t t (slice_get_range_with_len 0 (length m.types) t within ∙ ap Some (zero-add t))
 
 pub few_attributes : (m : Model) (t : ℕ) → IsValid m → length (attributes_at m t) ≤ 32
 few_attributes m t valid = elim (cases_lt t (length m.types)) [

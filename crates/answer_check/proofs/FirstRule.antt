@@ -10,8 +10,8 @@ use Rattle.answer_check.specs.declared.instance_set.InstanceSet.{InstanceSet}
 use Rattle.answer_check.specs.declared.place.Place.{Place}
 use Rattle.answer_check.specs.Finds.{BreaksAt, FindsItem, FindsPlace}
 use Rattle.answer_check.specs.InstanceSets.{is_member}
-use Rattle.answer_check.proofs.FaultlessLaws.{rule_broken, rule_broken-parts}
-use Rattle.answer_check.proofs.Items.{finds-same}
+use Rattle.answer_check.proofs.FaultlessLaws.{rule_broken, rule_broken_parts}
+use Rattle.answer_check.proofs.Items.{finds_same}
 
 module _ (P : ℕ → ℕ → Type 0) (n : ℕ) where
   -- what is known of the first place among so many items, where all places are at the first n instances
@@ -24,12 +24,12 @@ module _ (P : ℕ → ℕ → Type 0) (n : ℕ) where
   abbrev pub FindsBelow : ℕ → ℕ → Option ℕ → Type 0
   FindsBelow below k = FindsItem (λ i. (i < below) × P i k)
 
-  pub first-start : IsFirstSoFar 0 None n
-  first-start = record { within = omega arith; none_lower = λ i k lower item. absurd (omega arith); found = refl }
+  pub first_start : IsFirstSoFar 0 None n
+  first_start = record { within = omega arith; none_lower = λ i k lower item. absurd (omega arith); found = refl }
 
-  pub first-found : (items : ℕ) (first : Option Place) (below i : ℕ) → IsFirstSoFar items first below → FindsBelow below items (Some i)
+  pub first_found : (items : ℕ) (first : Option Place) (below i : ℕ) → IsFirstSoFar items first below → FindsBelow below items (Some i)
       → IsFirstSoFar (items + 1) (Some (record { instance = i; item = items })) i
-  first-found items first below i so_far here = record {
+  first_found items first below i so_far here = record {
     within = (let low = here.0.0 in let most = so_far.within in omega arith);
     none_lower = λ j k lower item has. elim (cases_lt k items) [
       | inl earlier ↦ so_far.none_lower j k (let low = here.0.0 in omega arith) earlier has
@@ -39,8 +39,8 @@ module _ (P : ℕ → ℕ → Type 0) (n : ℕ) where
     found = (refl, here.0.1, λ k earlier has. so_far.none_lower i k here.0.0 earlier has);
   }
 
-  pub first-kept : (items : ℕ) (first : Option Place) (below : ℕ) → IsFirstSoFar items first below → FindsBelow below items None → IsFirstSoFar (items + 1) first below
-  first-kept items first below so_far none = record {
+  pub first_kept : (items : ℕ) (first : Option Place) (below : ℕ) → IsFirstSoFar items first below → FindsBelow below items None → IsFirstSoFar (items + 1) first below
+  first_kept items first below so_far none = record {
     within = so_far.within;
     none_lower = λ j k lower item has. elim (cases_lt k items) [
       | inl earlier ↦ so_far.none_lower j k lower earlier has
@@ -49,9 +49,9 @@ module _ (P : ℕ → ℕ → Type 0) (n : ℕ) where
     found = so_far.found;
   }
 
-  pub first-end : (items : ℕ) (first : Option Place) (below : ℕ) → IsFirstSoFar items first below → ((i k : ℕ) → P i k → (i < n) × (k < items)) → FindsPlace P first
-  first-end items None below so_far all = λ i k has. so_far.none_lower i k (let e = so_far.found in let at = (all i k has).0 in omega arith) (all i k has).1 has
-  first-end items (Some p) below so_far all = record {
+  pub first_end : (items : ℕ) (first : Option Place) (below : ℕ) → IsFirstSoFar items first below → ((i k : ℕ) → P i k → (i < n) × (k < items)) → FindsPlace P first
+  first_end items None below so_far all = λ i k has. so_far.none_lower i k (let e = so_far.found in let at = (all i k has).0 in omega arith) (all i k has).1 has
+  first_end items (Some p) below so_far all = record {
     here = so_far.found.1;
     none_lower = λ i k lower has. so_far.none_lower i k (let e = so_far.found.0 in omega arith) (all i k has).1 has;
     none_before = so_far.found.2;
@@ -60,24 +60,24 @@ module _ (P : ℕ → ℕ → Type 0) (n : ℕ) where
 -- ---- rules
 
 -- the first instance below these at which a rule is false, by the set of those
-pub rule-finds : (m : Model) (c : List Instance) (k : ℕ) (r : Rule) (below : ℕ) (s : InstanceSet) (o : Option ℕ) → slice_get m.rules k ≡ Some r
+pub rule_finds : (m : Model) (c : List Instance) (k : ℕ) (r : Rule) (below : ℕ) (s : InstanceSet) (o : Option ℕ) → slice_get m.rules k ≡ Some r
     → ((i : ℕ) → is_member s i ≡ ((nat_lt i below && is_under m c r.kind i) && not (is_true_at m c i r.holds)))
     → FindsItem (λ i. IsTrue (is_member s i)) o → FindsBelow (BreaksAt m c 10) (length c) below k o
-rule-finds m c k r below s o rule is found =
-    finds-same (λ i. IsTrue (is_member s i)) (λ i. (i < below) × BreaksAt m c 10 i k) o
+rule_finds m c k r below s o rule is found =
+    finds_same (λ i. IsTrue (is_member s i)) (λ i. (i < below) × BreaksAt m c 10 i k) o
     (λ i member.
     let all : ((nat_lt i below && is_under m c r.kind i) && not (is_true_at m c i r.holds)) ≡ true = sym (is i) ∙ member in
     let both = and_parts (nat_lt i below && is_under m c r.kind i) (not (is_true_at m c i r.holds)) all in
     let each = and_parts (nat_lt i below) (is_under m c r.kind i) both.0 in
-    (ltb-true i below each.0, rule_broken m c i k r rule each.1 (not-false (is_true_at m c i r.holds) both.1)))
+    (ltb-true i below each.0, rule_broken m c i k r rule each.1 (not_false (is_true_at m c i r.holds) both.1)))
     (λ i broken.
-    let parts = rule_broken-parts m c i k r rule broken.1 in
-    is i ∙ all-three (nat_lt i below) (is_under m c r.kind i) (is_true_at m c i r.holds) (lt-ltb i below broken.0) parts.0 parts.1)
+    let parts = rule_broken_parts m c i k r rule broken.1 in
+    is i ∙ all_three (nat_lt i below) (is_under m c r.kind i) (is_true_at m c i r.holds) (lt-ltb i below broken.0) parts.0 parts.1)
     found
   where
-    not-false : (b : Bool) → not b ≡ true → b ≡ false
-    not-false true fails = absurd (false≢true fails)
-    not-false false holds = refl
+    not_false : (b : Bool) → not b ≡ true → b ≡ false
+    not_false true fails = absurd (false≢true fails)
+    not_false false holds = refl
 
-    all-three : (a b d : Bool) → a ≡ true → b ≡ true → d ≡ false → ((a && b) && not d) ≡ true
-    all-three a b d is_a is_b is_d = grind arith
+    all_three : (a b d : Bool) → a ≡ true → b ≡ true → d ≡ false → ((a && b) && not d) ≡ true
+    all_three a b d is_a is_b is_d = grind arith

@@ -9,12 +9,12 @@ use Rattle.config_value.specs.Value.{sum_of}
 use Rattle.answer_check.proofs.Counted.{fold_next}
 
 module _ {X : Type 0} (f : X → ℤ) where
-  sum-fold : (xs : List X) → sum_of (map f xs) ≡ fold (λ b x. b +ℤ f x) (pos 0) xs
-  sum-fold xs = fold-map ◌+ℤ◌ f (pos 0) xs
+  sum_fold : (xs : List X) → sum_of (map f xs) ≡ fold (λ b x. b +ℤ f x) (pos 0) xs
+  sum_fold xs = fold-map ◌+ℤ◌ f (pos 0) xs
 
   pub sum_next : (xs : List X) (k : ℕ) (x : X) → slice_get xs k ≡ Some x → sum_of (map f (take (k + 1) xs)) ≡ (sum_of (map f (take k xs)) +ℤ f x)
   sum_next xs k x at =
-      sum-fold (take (k + 1) xs) ∙ fold_next (λ b y. b +ℤ f y) (pos 0) xs k x at ∙ ap (λ b. b +ℤ f x) (sym (sum-fold (take k xs)))
+      sum_fold (take (k + 1) xs) ∙ fold_next (λ b y. b +ℤ f y) (pos 0) xs k x at ∙ ap (λ b. b +ℤ f x) (sym (sum_fold (take k xs)))
 
   pub sum_more : (xs : List X) (k : ℕ) (d : X) → k < length xs → sum_of (map f (take (k + 1) xs)) ≡ (sum_of (map f (take k xs)) +ℤ f (get_or xs k d))
   sum_more xs k d within = sum_next xs k (get_or xs k d) (slice_get-get_or xs k d within)

@@ -10,67 +10,67 @@ use Rattle.config_value.proofs.Mention.{leads_to, from_lower, mentioned_lower, c
 
 -- ---- what is first found, with one element more
 
-or-cond : {A : Type 0} (b : Bool) (x : A) (o q : Option A) → cond b (Some x) (option_or o q) ≡ option_or (cond b (Some x) o) q
-or-cond true x o q = refl
-or-cond false x o q = refl
+or_cond : {A : Type 0} (b : Bool) (x : A) (o q : Option A) → cond b (Some x) (option_or o q) ≡ option_or (cond b (Some x) o) q
+or_cond true x o q = refl
+or_cond false x o q = refl
 
-position_from-pushed : (p : Link → Bool) (i : ℕ) (ls : List Link) (l : Link) → position_from p i (ls ++ l ∷ []) ≡ option_or (position_from p i ls) (cond (p l) (Some (i + length ls)) None)
-position_from-pushed p i [] l = ap (λ n. cond (p l) (Some n) None) (sym (add-zero i))
-position_from-pushed p i (x ∷ ls) l =
-    ap (cond (p x) (Some i)) (position_from-pushed p (i + 1) ls l)
-    ∙ or-cond (p x) i (position_from p (i + 1) ls) (cond (p l) (Some (i + 1 + length ls)) None)
+position_from_pushed : (p : Link → Bool) (i : ℕ) (ls : List Link) (l : Link) → position_from p i (ls ++ l ∷ []) ≡ option_or (position_from p i ls) (cond (p l) (Some (i + length ls)) None)
+position_from_pushed p i [] l = ap (λ n. cond (p l) (Some n) None) (sym (add-zero i))
+position_from_pushed p i (x ∷ ls) l =
+    ap (cond (p x) (Some i)) (position_from_pushed p (i + 1) ls l)
+    ∙ or_cond (p x) i (position_from p (i + 1) ls) (cond (p l) (Some (i + 1 + length ls)) None)
     ∙ ap (λ n. option_or (cond (p x) (Some i) (position_from p (i + 1) ls)) (cond (p l) (Some n) None)) (omega arith)
 
-is_some-cond : {A B : Type 0} (b : Bool) (x : A) (y : B) (o : Option A) (q : Option B) → is_some o ≡ is_some q → is_some (cond b (Some x) o) ≡ is_some (cond b (Some y) q)
-is_some-cond true x y o q same = refl
-is_some-cond false x y o q same = same
+is_some_cond : {A B : Type 0} (b : Bool) (x : A) (y : B) (o : Option A) (q : Option B) → is_some o ≡ is_some q → is_some (cond b (Some x) o) ≡ is_some (cond b (Some y) q)
+is_some_cond true x y o q same = refl
+is_some_cond false x y o q same = same
 
-is_some-from : (p : Link → Bool) (i : ℕ) (ls : List Link) → is_some (position_from p i ls) ≡ is_some (find p ls)
-is_some-from p i [] = refl
-is_some-from p i (x ∷ ls) = is_some-cond (p x) i x (position_from p (i + 1) ls) (find p ls) (is_some-from p (i + 1) ls)
+is_some_from : (p : Link → Bool) (i : ℕ) (ls : List Link) → is_some (position_from p i ls) ≡ is_some (find p ls)
+is_some_from p i [] = refl
+is_some_from p i (x ∷ ls) = is_some_cond (p x) i x (position_from p (i + 1) ls) (find p ls) (is_some_from p (i + 1) ls)
 
-from-below_cond : (b : Bool) (i n : ℕ) (o : Option ℕ) → i < n → option_map_or (λ a. nat_lt a n) o true ≡ true → option_map_or (λ a. nat_lt a n) (cond b (Some i) o) true ≡ true
-from-below_cond true i n o low below = lt-ltb i n low
-from-below_cond false i n o low below = below
+from_below_cond : (b : Bool) (i n : ℕ) (o : Option ℕ) → i < n → option_map_or (λ a. nat_lt a n) o true ≡ true → option_map_or (λ a. nat_lt a n) (cond b (Some i) o) true ≡ true
+from_below_cond true i n o low below = lt-ltb i n low
+from_below_cond false i n o low below = below
 
-from-below : (p : Link → Bool) (i n : ℕ) (ls : List Link) → n ≡ i + length ls → option_map_or (λ a. nat_lt a n) (position_from p i ls) true ≡ true
-from-below p i n [] end = refl
-from-below p i n (x ∷ ls) end = from-below_cond (p x) i n (position_from p (i + 1) ls) (omega arith) (from-below p (i + 1) n ls (omega arith))
+from_below : (p : Link → Bool) (i n : ℕ) (ls : List Link) → n ≡ i + length ls → option_map_or (λ a. nat_lt a n) (position_from p i ls) true ≡ true
+from_below p i n [] end = refl
+from_below p i n (x ∷ ls) end = from_below_cond (p x) i n (position_from p (i + 1) ls) (omega arith) (from_below p (i + 1) n ls (omega arith))
 
-find-pushed : (p : Link → Bool) (ls : List Link) (l : Link) → find p (ls ++ l ∷ []) ≡ option_or (find p ls) (cond (p l) (Some l) None)
-find-pushed p ls l = find-append p ls (l ∷ [])
+find_pushed : (p : Link → Bool) (ls : List Link) (l : Link) → find p (ls ++ l ∷ []) ≡ option_or (find p ls) (cond (p l) (Some l) None)
+find_pushed p ls l = find-append p ls (l ∷ [])
 
-position-pushed : (p : Link → Bool) (ls : List Link) (l : Link) → position p (ls ++ l ∷ []) ≡ option_or (position p ls) (cond (p l) (Some (length ls)) None)
-position-pushed p ls l =
-    position_from-zero p (ls ++ l ∷ []) ∙ position_from-pushed p 0 ls l
+position_pushed : (p : Link → Bool) (ls : List Link) (l : Link) → position p (ls ++ l ∷ []) ≡ option_or (position p ls) (cond (p l) (Some (length ls)) None)
+position_pushed p ls l =
+    position_from-zero p (ls ++ l ∷ []) ∙ position_from_pushed p 0 ls l
     ∙ ap (λ n. option_or (position_from p 0 ls) (cond (p l) (Some n) None)) (omega arith)
     ∙ ap (λ o. option_or o (cond (p l) (Some (length ls)) None)) (sym (position_from-zero p ls))
 
 -- an element that is found has a place
-is_some-position : (p : Link → Bool) (ls : List Link) → is_some (position p ls) ≡ is_some (find p ls)
-is_some-position p ls = ap is_some (position_from-zero p ls) ∙ is_some-from p 0 ls
+is_some_position : (p : Link → Bool) (ls : List Link) → is_some (position p ls) ≡ is_some (find p ls)
+is_some_position p ls = ap is_some (position_from-zero p ls) ∙ is_some_from p 0 ls
 
-position-below : (p : Link → Bool) (ls : List Link) → option_map_or (λ a. nat_lt a (length ls)) (position p ls) true ≡ true
-position-below p ls = ap (λ o. option_map_or (λ a. nat_lt a (length ls)) o true) (position_from-zero p ls) ∙ from-below p 0 (length ls) ls (omega arith)
+position_below : (p : Link → Bool) (ls : List Link) → option_map_or (λ a. nat_lt a (length ls)) (position p ls) true ≡ true
+position_below p ls = ap (λ o. option_map_or (λ a. nat_lt a (length ls)) o true) (position_from-zero p ls) ∙ from_below p 0 (length ls) ls (omega arith)
 
 -- ---- mentions
 
-before-pushed : (n : ℕ) (a b : Option ℕ) (ti tj : Bool) → option_map_or (λ k. nat_lt k n) a true ≡ true → option_map_or (λ k. nat_lt k n) b true ≡ true → (ti && tj) ≡ false
+before_pushed : (n : ℕ) (a b : Option ℕ) (ti tj : Bool) → option_map_or (λ k. nat_lt k n) a true ≡ true → option_map_or (λ k. nat_lt k n) b true ≡ true → (ti && tj) ≡ false
     → comes_before (option_or a (cond ti (Some n) None)) (option_or b (cond tj (Some n) None)) ≡ cond (is_some b) (comes_before a b) (cond tj (is_some a) false)
-before-pushed n None None true true low high apart = absurd cc
-before-pushed n None None true false low high apart = refl
-before-pushed n None None false true low high apart = refl
-before-pushed n None None false false low high apart = refl
-before-pushed n None (Some k) true tj low high apart = le-ltb n k (omega (arith, ltb-true k n high))
-before-pushed n None (Some k) false tj low high apart = refl
-before-pushed n (Some k) None ti true low high apart = low
-before-pushed n (Some k) None ti false low high apart = refl
-before-pushed n (Some k) (Some h) ti tj low high apart = refl
+before_pushed n None None true true low high apart = absurd cc
+before_pushed n None None true false low high apart = refl
+before_pushed n None None false true low high apart = refl
+before_pushed n None None false false low high apart = refl
+before_pushed n None (Some k) true tj low high apart = le-ltb n k (omega (arith, ltb-true k n high))
+before_pushed n None (Some k) false tj low high apart = refl
+before_pushed n (Some k) None ti true low high apart = low
+before_pushed n (Some k) None ti false low high apart = refl
+before_pushed n (Some k) (Some h) ti tj low high apart = refl
 
-lower-pushed : (j : ℕ) (l : Link) (o : Option Link) (t : Bool) → from_lower j (option_or o (cond t (Some l) None)) ≡ cond (is_some o) (from_lower j o) (cond t (nat_lt l.from j) false)
-lower-pushed j l None true = refl
-lower-pushed j l None false = refl
-lower-pushed j l (Some k) t = refl
+lower_pushed : (j : ℕ) (l : Link) (o : Option Link) (t : Bool) → from_lower j (option_or o (cond t (Some l) None)) ≡ cond (is_some o) (from_lower j o) (cond t (nat_lt l.from j) false)
+lower_pushed j l None true = refl
+lower_pushed j l None false = refl
+lower_pushed j l (Some k) t = refl
 
 -- a link leads to the instance
 abbrev pub is_mentioned : List Link → ℕ → Bool
@@ -80,42 +80,42 @@ is_mentioned ls j = is_some (find (leads_to j) ls)
 abbrev pub in_turn_of : List Link → ℕ → Bool
 in_turn_of ls j = mentioned_lower ls j && ((j == 1) || mentioned_before ls (j - 1) j)
 
-pub mentioned-pushed : (ls : List Link) (l : Link) (j : ℕ) → is_mentioned (ls ++ l ∷ []) j ≡ (is_mentioned ls j || (l.to == j))
-mentioned-pushed ls l j = ap is_some (find-pushed (leads_to j) ls l) ∙ by_cases (find (leads_to j) ls) (l.to == j)
+pub mentioned_pushed : (ls : List Link) (l : Link) (j : ℕ) → is_mentioned (ls ++ l ∷ []) j ≡ (is_mentioned ls j || (l.to == j))
+mentioned_pushed ls l j = ap is_some (find_pushed (leads_to j) ls l) ∙ by_cases (find (leads_to j) ls) (l.to == j)
   where
     by_cases : (o : Option Link) (t : Bool) → is_some (option_or o (cond t (Some l) None)) ≡ (is_some o || t)
     by_cases None true = refl
     by_cases None false = refl
     by_cases (Some k) t = refl
 
-both-pushed : (found leads lower low one before earlier : Bool)
+both_pushed : (found leads lower low one before earlier : Bool)
     → (cond found lower (cond leads low false) && (one || cond found before (cond leads earlier false)))
     ≡ cond found (lower && (one || before)) (cond leads (low && (one || earlier)) false)
-both-pushed true leads lower low one before earlier = refl
-both-pushed false true lower low one before earlier = refl
-both-pushed false false lower low one before earlier = refl
+both_pushed true leads lower low one before earlier = refl
+both_pushed false true lower low one before earlier = refl
+both_pushed false false lower low one before earlier = refl
 
 apart : (to j : ℕ) → 1 ≤ j → ((to == (j - 1)) && (to == j)) ≡ false
 apart to j high = grind (arith, nat_tests)
 
 -- one more link settles the turn of an instance that none before leads to
-pub in_turn-pushed : (ls : List Link) (l : Link) (j : ℕ) → 1 ≤ j
+pub in_turn_pushed : (ls : List Link) (l : Link) (j : ℕ) → 1 ≤ j
     → in_turn_of (ls ++ l ∷ []) j ≡ cond (is_mentioned ls j) (in_turn_of ls j) (cond (l.to == j) (nat_lt l.from j && ((j == 1) || is_mentioned ls (j - 1))) false)
-in_turn-pushed ls l j high =
+in_turn_pushed ls l j high =
     let at_j = position (leads_to j) ls in
     let at_i = position (leads_to (j - 1)) ls in
     let lower : mentioned_lower (ls ++ l ∷ []) j ≡ cond (is_mentioned ls j) (mentioned_lower ls j) (cond (l.to == j) (nat_lt l.from j) false) =
-    ap (from_lower j) (find-pushed (leads_to j) ls l) ∙ lower-pushed j l (find (leads_to j) ls) (l.to == j) in
+    ap (from_lower j) (find_pushed (leads_to j) ls l) ∙ lower_pushed j l (find (leads_to j) ls) (l.to == j) in
     let before : mentioned_before (ls ++ l ∷ []) (j - 1) j ≡ cond (is_mentioned ls j) (mentioned_before ls (j - 1) j) (cond (l.to == j) (is_mentioned ls (j - 1)) false) =
-    ap₂ comes_before (position-pushed (leads_to (j - 1)) ls l) (position-pushed (leads_to j) ls l)
-    ∙ before-pushed (length ls) at_i at_j (l.to == (j - 1)) (l.to == j) (position-below (leads_to (j - 1)) ls) (position-below (leads_to j) ls) (apart l.to j high)
-    ∙ ap₂ (λ f g. cond f (mentioned_before ls (j - 1) j) (cond (l.to == j) g false)) (is_some-position (leads_to j) ls) (is_some-position (leads_to (j - 1)) ls) in
+    ap₂ comes_before (position_pushed (leads_to (j - 1)) ls l) (position_pushed (leads_to j) ls l)
+    ∙ before_pushed (length ls) at_i at_j (l.to == (j - 1)) (l.to == j) (position_below (leads_to (j - 1)) ls) (position_below (leads_to j) ls) (apart l.to j high)
+    ∙ ap₂ (λ f g. cond f (mentioned_before ls (j - 1) j) (cond (l.to == j) g false)) (is_some_position (leads_to j) ls) (is_some_position (leads_to (j - 1)) ls) in
     ap₂ (λ a b. a && ((j == 1) || b)) lower before
-    ∙ both-pushed (is_mentioned ls j) (l.to == j) (mentioned_lower ls j) (nat_lt l.from j) (j == 1) (mentioned_before ls (j - 1) j) (is_mentioned ls (j - 1))
+    ∙ both_pushed (is_mentioned ls j) (l.to == j) (mentioned_lower ls j) (nat_lt l.from j) (j == 1) (mentioned_before ls (j - 1) j) (is_mentioned ls (j - 1))
 
 -- an instance that no link leads to is not in turn
-pub in_turn-mentioned : (ls : List Link) (j : ℕ) → is_mentioned ls j ≡ false → in_turn_of ls j ≡ false
-in_turn-mentioned ls j none = by_found (find (leads_to j) ls) none
+pub in_turn_mentioned : (ls : List Link) (j : ℕ) → is_mentioned ls j ≡ false → in_turn_of ls j ≡ false
+in_turn_mentioned ls j none = by_found (find (leads_to j) ls) none
   where
     by_found : (o : Option Link) → is_some o ≡ false → (from_lower j o && ((j == 1) || mentioned_before ls (j - 1) j)) ≡ false
     by_found None none = refl

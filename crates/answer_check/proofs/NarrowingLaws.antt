@@ -23,11 +23,11 @@ use Rattle.prod_model.specs.Taxonomy.{Named, declarations_of, kept_entry, entrie
 use Rattle.prod_model.specs.Valid.{IsDeclared, inherited, has_distinct_names, has_narrowings, attribute_narrows, port_narrows, narrows_domain, same_kind}
 use Rattle.config_value.specs.ShapedSentences.{IsAt}
 use Rattle.config_value.proofs.Places.{list_all_at, list_any_from}
-use Rattle.prod_model.proofs.NameLaws.{same_text-refl}
+use Rattle.prod_model.proofs.NameLaws.{same_text_refl}
 use Rattle.prod_model.proofs.ForestLines.{HasNoCycle, HasParent, no_cycle}
-use Rattle.answer_check.proofs.LineLaws.{along_lines, is_a-cases, is_a-trans}
+use Rattle.answer_check.proofs.LineLaws.{along_lines, is_a_cases, is_a_trans}
 use Rattle.answer_check.proofs.ListLaws.{HasEach, find_at, map_at, at_map, at_front}
-use Rattle.answer_check.proofs.EntryLaws.{same_text-same, entries_parent, names_distinct}
+use Rattle.answer_check.proofs.EntryLaws.{same_text_same, entries_parent, names_distinct}
 
 -- ---- what a narrowing is
 
@@ -50,35 +50,35 @@ pub record IsPortWithin (m : Model) (p q : PortAt) : Type 0 where
   pub target : (t : ℕ) → IsTrue (is_a m t q.target) → IsTrue (is_a m t p.target)
 
 -- a range is within itself
-range_within-refl : (d : Domain) → IsRangeWithin d d
-range_within-refl (Range low high) = (omega (arith, ints), omega (arith, ints))
-range_within-refl (Words words) = tt
+range_within_refl : (d : Domain) → IsRangeWithin d d
+range_within_refl (Range low high) = (omega (arith, ints), omega (arith, ints))
+range_within_refl (Words words) = tt
 
 -- a range within a range within another is within that one
-range_within-trans : (c d e : Domain) → IsRangeWithin c d → IsRangeWithin d e → IsRangeWithin c e
-range_within-trans (Range l h) (Range l' h') (Range l'' h'') first second = (omega (arith, ints, first.0, second.0), omega (arith, ints, first.1, second.1))
-range_within-trans (Range l h) (Range l' h') (Words ws) first second = absurd second
-range_within-trans (Range l h) (Words ws) e first second = absurd first
-range_within-trans (Words ws) d e first second = tt
+range_within_trans : (c d e : Domain) → IsRangeWithin c d → IsRangeWithin d e → IsRangeWithin c e
+range_within_trans (Range l h) (Range l' h') (Range l'' h'') first second = (omega (arith, ints, first.0, second.0), omega (arith, ints, first.1, second.1))
+range_within_trans (Range l h) (Range l' h') (Words ws) first second = absurd second
+range_within_trans (Range l h) (Words ws) e first second = absurd first
+range_within_trans (Words ws) d e first second = tt
 
 -- an attribute narrows itself
-attribute_within-refl : (a : AttrAt) → IsAttributeWithin a a
-attribute_within-refl a = record { same_id = refl; within = range_within-refl a.domain }
+attribute_within_refl : (a : AttrAt) → IsAttributeWithin a a
+attribute_within_refl a = record { same_id = refl; within = range_within_refl a.domain }
 
 -- what narrows a narrowed attribute narrows the attribute
-attribute_within-trans : (a b c : AttrAt) → IsAttributeWithin a b → IsAttributeWithin b c → IsAttributeWithin a c
-attribute_within-trans a b c first second = record {
+attribute_within_trans : (a b c : AttrAt) → IsAttributeWithin a b → IsAttributeWithin b c → IsAttributeWithin a c
+attribute_within_trans a b c first second = record {
   same_id = second.same_id ∙ first.same_id;
-  within = range_within-trans a.domain b.domain c.domain first.within second.within;
+  within = range_within_trans a.domain b.domain c.domain first.within second.within;
 }
 
 -- a port narrows itself
-port_within-refl : (m : Model) (p : PortAt) → IsPortWithin m p p
-port_within-refl m p = record { same_id = refl; low = le_refl _; high = le_refl _; target = λ t under. under }
+port_within_refl : (m : Model) (p : PortAt) → IsPortWithin m p p
+port_within_refl m p = record { same_id = refl; low = le_refl _; high = le_refl _; target = λ t under. under }
 
 -- what narrows a narrowed port narrows the port
-port_within-trans : (m : Model) (p q r : PortAt) → IsPortWithin m p q → IsPortWithin m q r → IsPortWithin m p r
-port_within-trans m p q r first second = record {
+port_within_trans : (m : Model) (p q r : PortAt) → IsPortWithin m p q → IsPortWithin m q r → IsPortWithin m p r
+port_within_trans m p q r first second = record {
   same_id = second.same_id ∙ first.same_id;
   low = omega (arith, first.low, second.low);
   high = omega (arith, first.high, second.high);
@@ -86,8 +86,8 @@ port_within-trans m p q r first second = record {
 }
 
 -- each place's element of the first list has one that narrows it in the second: twice over
-has_each-trans : {A : Type 0} (R : A → A → Type 0) → ((a b c : A) → R a b → R b c → R a c) → (xs ys zs : List A) → HasEach R xs ys → HasEach R ys zs → HasEach R xs zs
-has_each-trans R trans xs ys zs first second k x there =
+has_each_trans : {A : Type 0} (R : A → A → Type 0) → ((a b c : A) → R a b → R b c → R a c) → (xs ys zs : List A) → HasEach R xs ys → HasEach R ys zs → HasEach R xs zs
+has_each_trans R trans xs ys zs first second k x there =
     let y = first k x there in
     let z = second k y.0 y.1 in
     (z.0, z.1, trans x y.0 z.0 y.2 z.2)
@@ -105,7 +105,7 @@ find_entry : {A : Type 0} (es : List (Named A)) → IsTrue (is_distinct (map (λ
 find_entry [] distinct k e there = absurd (none-some e there)
 find_entry (x ∷ es) distinct zero e there =
     let is : x ≡ e = same_Some x e there in
-    let passes : IsTrue (same_text x.name e.name) = ap (λ n. same_text n e.name) (ap (λ z. z.name) is) ∙ same_text-refl e.name in
+    let passes : IsTrue (same_text x.name e.name) = ap (λ n. same_text n e.name) (ap (λ z. z.name) is) ∙ same_text_refl e.name in
     ap (λ b. cond b (Some x) (find (λ y. same_text y.name e.name) es)) passes ∙ ap Some is
 find_entry (x ∷ es) distinct (suc k) e there =
     let names = map (λ (e : Named _). e.name) es in
@@ -150,7 +150,7 @@ module _ {D A : Type 0} (declared : TypeDecl → List D) (name_of : D → List �
       by e found None is = same e.what
       by e found (Some d) is =
           let at = find_at (λ d. same_text (name_of d) e.name) ds d is in
-          let named : name_of d ≡ e.name = same_text-same (name_of d) e.name at.2 in
+          let named : name_of d ≡ e.name = same_text_same (name_of d) e.name at.2 in
           each at.0 d e at.1 (ap (λ n. find (λ x. same_text x.name n) before) named ∙ found)
 
 -- ---- attributes and ports
@@ -207,7 +207,7 @@ attributes_kept : (m : Model) → IsDeclared m → (t p : ℕ) → HasParent m.t
 unfolding attributes_of
 attributes_kept m is t p above =
     let types = m.types in
-    each_kept (λ d. d.attributes) (λ d. d.name) made_attribute (λ d a. made_attribute a.id d) m.types IsAttributeWithin attribute_within-refl (no_cycle m is.taxonomy.forest)
+    each_kept (λ d. d.attributes) (λ d. d.name) made_attribute (λ d a. made_attribute a.id d) m.types IsAttributeWithin attribute_within_refl (no_cycle m is.taxonomy.forest)
     (λ u. (distinct_declarations m is u).0) t p above (λ j d e there found.
     let declared : IsAt above.decl.attributes j d = subst (λ o. IsAt (option_map_or (λ d. d.attributes) o []) j d) above.stands there in
     let narrows = list_all_at (attribute_narrows m above.decl) above.decl.attributes (declared_narrows m is t above.decl above.stands).0 j d declared in
@@ -222,7 +222,7 @@ attributes_kept m is t p above =
 ports_kept : (m : Model) → IsDeclared m → (t p : ℕ) → HasParent m.types t p → HasEach (IsPortWithin m) (ports_at m p) (ports_at m t)
 unfolding ports_of
 ports_kept m is t p above =
-    each_kept (λ d. d.ports) (λ d. d.name) made_port (λ d p. made_port p.id d) m.types (IsPortWithin m) (port_within-refl m) (no_cycle m is.taxonomy.forest)
+    each_kept (λ d. d.ports) (λ d. d.name) made_port (λ d p. made_port p.id d) m.types (IsPortWithin m) (port_within_refl m) (no_cycle m is.taxonomy.forest)
     (λ u. (distinct_declarations m is u).1) t p above (λ j d e there found.
     let declared : IsAt above.decl.ports j d = subst (λ o. IsAt (option_map_or (λ d. d.ports) o []) j d) above.stands there in
     let narrows = list_all_at (port_narrows m above.decl) above.decl.ports (declared_narrows m is t above.decl above.stands).1 j d declared in
@@ -239,7 +239,7 @@ ports_kept m is t p above =
       same_id = refl;
       low = leb-true _ _ one.1;
       high = leb-true _ _ two.1;
-      target = λ u under. is_a-trans m is.taxonomy.forest u d.target e.what.target under three.1;
+      target = λ u under. is_a_trans m is.taxonomy.forest u d.target e.what.target under three.1;
     })
 
 -- A type under another has each attribute of that one, narrowed.
@@ -247,9 +247,9 @@ pub attributes_narrow : (m : Model) → IsDeclared m → (t u : ℕ) → IsTrue 
 attributes_narrow m is t u under =
     let forest = is.taxonomy.forest in
     along_lines m.types (no_cycle m forest) (λ t. IsTrue (is_a m t u) → HasEach IsAttributeWithin (attributes_at m u) (attributes_at m t)) (λ t each under.
-    elim (is_a-cases m forest t u under) [
-      | inl same ↦ λ k a there. (a, subst (λ v. IsAt (attributes_at m v) k a) (sym same) there, attribute_within-refl a)
-      | inr more ↦ has_each-trans IsAttributeWithin attribute_within-trans (attributes_at m u) (attributes_at m more.0) (attributes_at m t)
+    elim (is_a_cases m forest t u under) [
+      | inl same ↦ λ k a there. (a, subst (λ v. IsAt (attributes_at m v) k a) (sym same) there, attribute_within_refl a)
+      | inr more ↦ has_each_trans IsAttributeWithin attribute_within_trans (attributes_at m u) (attributes_at m more.0) (attributes_at m t)
           (each more.0 more.1 more.2) (attributes_kept m is t more.0 more.1)
     ]) t under
 
@@ -258,8 +258,8 @@ pub ports_narrow : (m : Model) → IsDeclared m → (t u : ℕ) → IsTrue (is_a
 ports_narrow m is t u under =
     let forest = is.taxonomy.forest in
     along_lines m.types (no_cycle m forest) (λ t. IsTrue (is_a m t u) → HasEach (IsPortWithin m) (ports_at m u) (ports_at m t)) (λ t each under.
-    elim (is_a-cases m forest t u under) [
-      | inl same ↦ λ k p there. (p, subst (λ v. IsAt (ports_at m v) k p) (sym same) there, port_within-refl m p)
-      | inr more ↦ has_each-trans (IsPortWithin m) (port_within-trans m) (ports_at m u) (ports_at m more.0) (ports_at m t)
+    elim (is_a_cases m forest t u under) [
+      | inl same ↦ λ k p there. (p, subst (λ v. IsAt (ports_at m v) k p) (sym same) there, port_within_refl m p)
+      | inr more ↦ has_each_trans (IsPortWithin m) (port_within_trans m) (ports_at m u) (ports_at m more.0) (ports_at m t)
           (each more.0 more.1 more.2) (ports_kept m is t more.0 more.1)
     ]) t under

@@ -15,7 +15,7 @@ use Rattle.config_value.specs.Shaped.{is_shaped, has_root, has_size, has_value, 
 use Rattle.config_value.specs.Numbered.{is_in_turn, is_numbered}
 use Rattle.config_value.specs.Satisfies.{follows_rules, satisfies}
 use Rattle.config_value.specs.Spelled.{is_spelled, is_spelled_value, is_spelled_links}
-use Rattle.config_value.proofs.Places.{list_all_at, list_all_from, pointwise_at, pointwise_from, option_map_or_at, option_map_or_from, slice_get-range_with_len, range_with_len-lt, is_between_at, is_between_from}
+use Rattle.config_value.proofs.Places.{list_all_at, list_all_from, pointwise_at, pointwise_from, option_map_or_at, option_map_or_from, slice_get_range_with_len, range_with_len_lt, is_between_at, is_between_from}
 use Rattle.config_value.proofs.ShapedParts.{PassesEach, passes_each, is_shaped_from}
 use Rattle.answer_check.specs.declared.verdict.Verdict.{Verdict}
 use Rattle.answer_check.specs.declared.verdict.Verdict.TheVariants.{Satisfied, Broken}
@@ -26,40 +26,40 @@ use Rattle.answer_check.proofs.BadValues.{built}
 -- ---- tests that fail
 
 -- a test that fails nowhere passes
-passes-unless : (b : Bool) → (b ≡ false → ⊥) → b ≡ true
-passes-unless true fails = refl
-passes-unless false fails = absurd (fails refl)
+passes_unless : (b : Bool) → (b ≡ false → ⊥) → b ≡ true
+passes_unless true fails = refl
+passes_unless false fails = absurd (fails refl)
 
 clash : (b : Bool) → b ≡ true → b ≡ false → ⊥
 clash b holds fails = true≢false (sym holds ∙ fails)
 
 -- the numbers of a range begin with its first
-range-least : (a n k j : ℕ) → slice_get (range_with_len a n) k ≡ Some j → a ≤ j
-range-least a zero k j at = absurd (none-some j at)
-range-least a (suc n) zero j at = omega (arith, same_Some a j at)
-range-least a (suc n) (suc k) j at = omega (arith, range-least (a + 1) n k j at)
+range_least : (a n k j : ℕ) → slice_get (range_with_len a n) k ≡ Some j → a ≤ j
+range_least a zero k j at = absurd (none-some j at)
+range_least a (suc n) zero j at = omega (arith, same_Some a j at)
+range_least a (suc n) (suc k) j at = omega (arith, range_least (a + 1) n k j at)
 
 -- what stands beside its place in a list
-enumerate-first : (n : ℕ) (c : List Instance) (k : ℕ) (e : ℕ × Instance) → slice_get (enumerate_from n c) k ≡ Some e → e.0 ≡ n + k
-enumerate-first n [] k e at = absurd (none-some e at)
-enumerate-first n (x ∷ c) zero e at = ap (λ p. p.0) (sym (same_Some (n, x) e at)) ∙ omega arith
-enumerate-first n (x ∷ c) (suc k) e at = enumerate-first (n + 1) c k e at ∙ omega arith
+enumerate_first : (n : ℕ) (c : List Instance) (k : ℕ) (e : ℕ × Instance) → slice_get (enumerate_from n c) k ≡ Some e → e.0 ≡ n + k
+enumerate_first n [] k e at = absurd (none-some e at)
+enumerate_first n (x ∷ c) zero e at = ap (λ p. p.0) (sym (same_Some (n, x) e at)) ∙ omega arith
+enumerate_first n (x ∷ c) (suc k) e at = enumerate_first (n + 1) c k e at ∙ omega arith
 
-enumerate-second : (n : ℕ) (c : List Instance) (k : ℕ) (e : ℕ × Instance) → slice_get (enumerate_from n c) k ≡ Some e → slice_get c k ≡ Some e.1
-enumerate-second n [] k e at = absurd (none-some e at)
-enumerate-second n (x ∷ c) zero e at = ap (λ p. Some p.1) (same_Some (n, x) e at)
-enumerate-second n (x ∷ c) (suc k) e at = enumerate-second (n + 1) c k e at
+enumerate_second : (n : ℕ) (c : List Instance) (k : ℕ) (e : ℕ × Instance) → slice_get (enumerate_from n c) k ≡ Some e → slice_get c k ≡ Some e.1
+enumerate_second n [] k e at = absurd (none-some e at)
+enumerate_second n (x ∷ c) zero e at = ap (λ p. Some p.1) (same_Some (n, x) e at)
+enumerate_second n (x ∷ c) (suc k) e at = enumerate_second (n + 1) c k e at
 
-enumerate-at : (n : ℕ) (c : List Instance) (k : ℕ) (x : Instance) → slice_get c k ≡ Some x → slice_get (enumerate_from n c) k ≡ Some (n + k, x)
-enumerate-at n [] k x at = absurd (none-some x at)
-enumerate-at n (y ∷ c) zero x at = let e : n + 0 ≡ n = omega arith in rw e (ap (λ z. Some (n, z)) (same_Some y x at))
-enumerate-at n (y ∷ c) (suc k) x at = let e : n + 1 + k ≡ n + suc k = omega arith in enumerate-at (n + 1) c k x at ∙ ap (λ j. Some (j, x)) e
+enumerate_at : (n : ℕ) (c : List Instance) (k : ℕ) (x : Instance) → slice_get c k ≡ Some x → slice_get (enumerate_from n c) k ≡ Some (n + k, x)
+enumerate_at n [] k x at = absurd (none-some x at)
+enumerate_at n (y ∷ c) zero x at = let e : n + 0 ≡ n = omega arith in rw e (ap (λ z. Some (n, z)) (same_Some y x at))
+enumerate_at n (y ∷ c) (suc k) x at = let e : n + 1 + k ≡ n + suc k = omega arith in enumerate_at (n + 1) c k x at ∙ ap (λ j. Some (j, x)) e
 
-unless-parts : (a b : Bool) → (not a || b) ≡ false → (a ≡ true) × (b ≡ false)
-unless-parts a b is = (grind arith, grind arith)
+unless_parts : (a b : Bool) → (not a || b) ≡ false → (a ≡ true) × (b ≡ false)
+unless_parts a b is = (grind arith, grind arith)
 
-unless-second : (a b : Bool) → (not a || b) ≡ true → a ≡ true → b ≡ true
-unless-second a b is all = grind arith
+unless_second : (a b : Bool) → (not a || b) ≡ true → a ≡ true → b ≡ true
+unless_second a b is all = grind arith
 
 -- what an instance's spelled links are like
 spelled_links : (m : Model) (c : List Instance) (i k : ℕ) (x : Instance) (links : List ℕ) → IsTrue (is_spelled m c) → slice_get c i ≡ Some x → slice_get x.links k ≡ Some links → ascends links ≡ true
@@ -68,8 +68,8 @@ spelled_links m c i k x links spelled at there =
     let both = list_all_at (λ y. pointwise (is_spelled_value m) (attributes_at m y.kind) y.values && list_all is_spelled_links y.links) c (and_parts _ _ spelled).1 i x at in
     (and_parts _ _ (list_all_at is_spelled_links x.links (and_parts (pointwise (is_spelled_value m) (attributes_at m x.kind) x.values) (list_all is_spelled_links x.links) both).1 k links there)).0
 
-at-contained : (xs : List ℕ) (x : ℕ) (among : Contains xs x) → slice_get xs among.0 ≡ Some x
-at-contained xs x among = slice_get-get_or xs among.0 x among.1 ∙ ap Some among.2
+at_contained : (xs : List ℕ) (x : ℕ) (among : Contains xs x) → slice_get xs among.0 ≡ Some x
+at_contained xs x among = slice_get-get_or xs among.0 x among.1 ∙ ap Some among.2
 
 -- ---- without breaks
 
@@ -80,7 +80,7 @@ module _ (m : Model) (c : List Instance) (spelled : IsTrue (is_spelled m c)) whe
 
     kept_root : IsTrue (has_root m c)
     unfolding has_root
-    kept_root = passes-unless (is_under m c m.root 0) (λ other. never (record { code = 2; instance = 0; item = 0 }) (omega arith) (other_root refl refl refl other))
+    kept_root = passes_unless (is_under m c m.root 0) (λ other. never (record { code = 2; instance = 0; item = 0 }) (omega arith) (other_root refl refl refl other))
 
     kept_size : IsTrue (has_size m c)
     unfolding has_size is_spelled
@@ -95,7 +95,7 @@ module _ (m : Model) (c : List Instance) (spelled : IsTrue (is_spelled m c)) whe
     unfolding has_values
     kept_values = list_all_from (λ x. pointwise (has_value m) (attributes_at m x.kind) x.values) c (λ i x stands.
         pointwise_from (has_value m) (attributes_at m x.kind) x.values (sym (built m c i x spelled stands).each_attribute) (λ k a v attribute value.
-        passes-unless (has_value m a v) (λ bad. never (record { code = 3; instance = i; item = k }) (omega arith) (bad_value refl x a v stands attribute value bad))))
+        passes_unless (has_value m a v) (λ bad. never (record { code = 3; instance = i; item = k }) (omega arith) (bad_value refl x a v stands attribute value bad))))
 
     kept_target : (i k h j : ℕ) (x : Instance) (p : PortAt) (links : List ℕ) → slice_get c i ≡ Some x → slice_get (ports_at m x.kind) k ≡ Some p → slice_get x.links k ≡ Some links
         → slice_get links h ≡ Some j → is_under m c p.target j ≡ true
@@ -103,7 +103,7 @@ module _ (m : Model) (c : List Instance) (spelled : IsTrue (is_spelled m c)) whe
         let among : Contains links j = (h, slice_get_within links h j link, get_or_from_slice_get links h j j link) in
         elim (slice_get_cases c j).1 [
           | inl w ↦
-              option_map_or_from (under m p.target) (slice_get c j) w.0 w.2 (passes-unless (under m p.target w.0) (λ off.
+              option_map_or_from (under m p.target) (slice_get c j) w.0 w.2 (passes_unless (under m p.target w.0) (λ off.
               never (record { code = 5; instance = i; item = k }) (omega arith)
               (off_target refl p links j w.0 (record { x = x; stands = stands; port = port; links_there = there }) among w.2 off)))
           | inr w ↦
@@ -117,13 +117,13 @@ module _ (m : Model) (c : List Instance) (spelled : IsTrue (is_spelled m c)) whe
         pointwise_from (has_links_of m c) (ports_at m x.kind) x.links (sym (built m c i x spelled stands).each_port) (λ k p links port there.
         and_from _ _ (and_from _ _ (spelled_links m c i k x links spelled stands there)
         (list_all_from (is_under m c p.target) links (λ h j link. kept_target i k h j x p links stands port there link)))
-        (passes-unless (is_between p.low p.high (length links)) (λ wrong.
+        (passes_unless (is_between p.low p.high (length links)) (λ wrong.
         never (record { code = 6; instance = i; item = k }) (omega arith) (bad_number refl p links (record { x = x; stands = stands; port = port; links_there = there }) wrong)))))
 
     kept_parts : IsTrue (has_single_parts m c)
     unfolding has_single_parts
     kept_parts = list_all_from (λ j. nat_le (count_by (λ k. k == j) (part_links m c)) (most_part_links j)) (instance_numbers c) (λ k j at.
-        let within : j < length c = omega (arith, range_with_len-lt 0 (length c) k j at) in
+        let within : j < length c = omega (arith, range_with_len_lt 0 (length c) k j at) in
         elim (cases_lt (most_part_links j) (count_by (λ k. k == j) (part_links m c))) [
           | inl many ↦ absurd (never (record { code = 7; instance = j; item = 0 }) (omega arith) (shared_part refl refl within many))
           | inr few ↦ le-leb _ _ few
@@ -132,15 +132,15 @@ module _ (m : Model) (c : List Instance) (spelled : IsTrue (is_spelled m c)) whe
     kept_counts : IsTrue (has_counts m c)
     unfolding has_counts
     kept_counts = list_all_from (λ b. is_between b.low b.high (count_by (under m b.kind) c)) m.bounds (λ k n at.
-        passes-unless (is_between n.low n.high (count_by (under m n.kind) c)) (λ bad. never (record { code = 9; instance = 0; item = k }) (omega arith) (bad_count refl refl n at bad)))
+        passes_unless (is_between n.low n.high (count_by (under m n.kind) c)) (λ bad. never (record { code = 9; instance = 0; item = k }) (omega arith) (bad_count refl refl n at bad)))
 
     leaf_types : IsTrue (has_leaf_types m c)
     unfolding is_spelled
     leaf_types = (and_parts _ _ (and_parts _ _ spelled).0).1
 
     -- a spelled configuration that breaks none of the tests before the rules is shaped
-    pub shaped-unbroken : IsTrue (is_shaped m c)
-    shaped-unbroken = is_shaped_from m c (record {
+    pub shaped_unbroken : IsTrue (is_shaped m c)
+    shaped_unbroken = is_shaped_from m c (record {
       leaf_types = leaf_types;
       root = kept_root;
       size = kept_size;
@@ -153,35 +153,35 @@ module _ (m : Model) (c : List Instance) (spelled : IsTrue (is_spelled m c)) whe
     kept_numbers : IsTrue (is_numbered c)
     unfolding is_numbered
     kept_numbers = list_all_from (is_in_turn c) (range_with_len 1 (length c - 1)) (λ k j at.
-        let high = range-least 1 (length c - 1) k j at in
-        let low = range_with_len-lt 1 (length c - 1) k j at in
-        passes-unless (is_in_turn c j) (λ out. never (record { code = 8; instance = j; item = 0 }) (omega arith) (misnumbered refl refl high (omega arith) out)))
+        let high = range_least 1 (length c - 1) k j at in
+        let low = range_with_len_lt 1 (length c - 1) k j at in
+        passes_unless (is_in_turn c j) (λ out. never (record { code = 8; instance = j; item = 0 }) (omega arith) (misnumbered refl refl high (omega arith) out)))
 
   kept_rules : HasNoBreakBelow m c 11 → IsTrue (follows_rules m c)
   unfolding follows_rules
   kept_rules none = list_all_from (λ r. list_all (λ e. not (under m r.kind e.1) || is_true_at m c e.0 r.holds) (enumerate_from 0 c)) m.rules (λ k r rule.
       list_all_from (λ e. not (under m r.kind e.1) || is_true_at m c e.0 r.holds) (enumerate_from 0 c) (λ i e at.
-      let first : e.0 ≡ i = enumerate-first 0 c i e at ∙ omega arith in
-      let stands : slice_get c e.0 ≡ Some e.1 = ap (slice_get c) first ∙ enumerate-second 0 c i e at in
-      passes-unless (not (under m r.kind e.1) || is_true_at m c e.0 r.holds) (λ wrong.
-      let parts = unless-parts (under m r.kind e.1) (is_true_at m c e.0 r.holds) wrong in
+      let first : e.0 ≡ i = enumerate_first 0 c i e at ∙ omega arith in
+      let stands : slice_get c e.0 ≡ Some e.1 = ap (slice_get c) first ∙ enumerate_second 0 c i e at in
+      passes_unless (not (under m r.kind e.1) || is_true_at m c e.0 r.holds) (λ wrong.
+      let parts = unless_parts (under m r.kind e.1) (is_true_at m c e.0 r.holds) wrong in
       let b : Break = record { code = 10; instance = e.0; item = k } in
       let least : 11 ≤ 10 = none b (false_rule refl e.1 r stands rule parts.0 parts.1) in
       absurd (omega arith))))
 
   -- a spelled configuration that breaks no test satisfies the model
-  pub satisfies-unbroken : HasNoBreakBelow m c 11 → IsTrue (satisfies m c)
+  pub satisfies_unbroken : HasNoBreakBelow m c 11 → IsTrue (satisfies m c)
   unfolding satisfies
-  satisfies-unbroken none =
+  satisfies_unbroken none =
       let below : HasNoBreakBelow m c 10 = λ b broken. omega (arith, none b broken) in
-      and_from _ _ (and_from _ _ (shaped-unbroken below) (kept_numbers below)) (kept_rules none)
+      and_from _ _ (and_from _ _ (shaped_unbroken below) (kept_numbers below)) (kept_rules none)
 
 -- ---- with a break
 
 module _ (m : Model) (c : List Instance) (b : Break) where
-  shaped-break : IsTrue (is_shaped m c) → IsTrue (is_numbered c) → IsTrue (follows_rules m c) → Breaks m c b → ⊥
+  shaped_break : IsTrue (is_shaped m c) → IsTrue (is_numbered c) → IsTrue (follows_rules m c) → Breaks m c b → ⊥
   unfolding has_root has_size has_values has_links has_single_parts has_counts is_numbered follows_rules
-  shaped-break shaped numbered rules broken = by_test (passes_each m c shaped) broken
+  shaped_break shaped numbered rules broken = by_test (passes_each m c shaped) broken
     where
       links_at : PassesEach m c → (p : PortAt) (links : List ℕ) → HasPort m c b p links → has_links_of m c p links ≡ true
       links_at tests p links port =
@@ -198,24 +198,24 @@ module _ (m : Model) (c : List Instance) (b : Break) where
           (list_all_at (λ y. pointwise (has_value m) (attributes_at m y.kind) y.values) c tests.values b.instance x stands) b.item a v attribute value) bad
       by_test tests (no_instance is p links j port among outside) =
           let test = and_parts (ascends links && list_all (is_under m c p.target) links) (is_between p.low p.high (length links)) (links_at tests p links port) in
-          let target = list_all_at (is_under m c p.target) links (and_parts (ascends links) (list_all (is_under m c p.target) links) test.0).1 among.0 j (at-contained links j among) in
+          let target = list_all_at (is_under m c p.target) links (and_parts (ascends links) (list_all (is_under m c p.target) links) test.0).1 among.0 j (at_contained links j among) in
           let found = option_map_or_at (under m p.target) (slice_get c j) target in
           none-some found.0 (sym (slice_get_past c j outside) ∙ found.1)
       by_test tests (off_target is p links j y port among there off) =
           let test = and_parts (ascends links && list_all (is_under m c p.target) links) (is_between p.low p.high (length links)) (links_at tests p links port) in
-          let target = list_all_at (is_under m c p.target) links (and_parts (ascends links) (list_all (is_under m c p.target) links) test.0).1 among.0 j (at-contained links j among) in
+          let target = list_all_at (is_under m c p.target) links (and_parts (ascends links) (list_all (is_under m c p.target) links) test.0).1 among.0 j (at_contained links j among) in
           let found = option_map_or_at (under m p.target) (slice_get c j) target in
           let same : found.0 ≡ y = same_Some found.0 y (sym found.1 ∙ there) in
           clash (under m p.target y) (ap (under m p.target) (sym same) ∙ found.2) off
       by_test tests (bad_number is p links port wrong) =
           clash (is_between p.low p.high (length links)) (and_parts (ascends links && list_all (is_under m c p.target) links) (is_between p.low p.high (length links)) (links_at tests p links port)).1 wrong
       by_test tests (shared_part is item within shared) =
-          let at = slice_get-range_with_len 0 (length c) b.instance within ∙ ap Some (zero-add b.instance) in
+          let at = slice_get_range_with_len 0 (length c) b.instance within ∙ ap Some (zero-add b.instance) in
           let few = leb-true _ _ (list_all_at (λ j. nat_le (count_by (λ k. k == j) (part_links m c)) (most_part_links j)) (instance_numbers c) tests.single_parts b.instance b.instance at) in
           absurd (omega arith)
       by_test tests (misnumbered is item past within out) =
           let place : 1 + (b.instance - 1) ≡ b.instance = omega arith in
-          let at = slice_get-range_with_len 1 (length c - 1) (b.instance - 1) (omega arith) ∙ ap Some place in
+          let at = slice_get_range_with_len 1 (length c - 1) (b.instance - 1) (omega arith) ∙ ap Some place in
           clash (is_in_turn c b.instance) (list_all_at (is_in_turn c) (range_with_len 1 (length c - 1)) numbered (b.instance - 1) b.instance at) out
       by_test tests (bad_count is instance n bound bad) =
           clash (is_between n.low n.high (count_by (under m n.kind) c)) (list_all_at (λ a. is_between a.low a.high (count_by (under m a.kind) c)) m.bounds tests.counts b.item n bound) bad
@@ -223,18 +223,18 @@ module _ (m : Model) (c : List Instance) (b : Break) where
           let each = list_all_at (λ s. list_all (λ e. not (under m s.kind e.1) || is_true_at m c e.0 s.holds) (enumerate_from 0 c)) m.rules rules b.item r rule in
           let place : 0 + b.instance ≡ b.instance = omega arith in
           let here = list_all_at (λ (e : ℕ × Instance). not (under m r.kind e.1) || is_true_at m c e.0 r.holds) (enumerate_from 0 c) each b.instance (b.instance, x)
-          (enumerate-at 0 c b.instance x stands ∙ ap (λ i. Some (i, x)) place) in
-          clash (is_true_at m c b.instance r.holds) (unless-second (under m r.kind x) (is_true_at m c b.instance r.holds) here kind) wrong
+          (enumerate_at 0 c b.instance x stands ∙ ap (λ i. Some (i, x)) place) in
+          clash (is_true_at m c b.instance r.holds) (unless_second (under m r.kind x) (is_true_at m c b.instance r.holds) here kind) wrong
 
 -- what satisfies the model breaks no test
-pub satisfied-unbroken : (m : Model) (c : List Instance) (b : Break) → IsTrue (satisfies m c) → Breaks m c b → ⊥
+pub satisfied_unbroken : (m : Model) (c : List Instance) (b : Break) → IsTrue (satisfies m c) → Breaks m c b → ⊥
 unfolding satisfies
-satisfied-unbroken m c b all broken =
+satisfied_unbroken m c b all broken =
     let both = and_parts _ _ all in
     let first = and_parts _ _ both.0 in
-    shaped-break m c b first.0 first.1 both.1 broken
+    shaped_break m c b first.0 first.1 both.1 broken
 
 -- where a break is told, the model isn't satisfied
-pub told-unsatisfied : (m : Model) (c : List Instance) (v : Verdict) → (v ≡ Satisfied → ⊥) → Tells m c v → IsTrue (satisfies m c) → ⊥
-told-unsatisfied m c Satisfied told first all = told refl
-told-unsatisfied m c (Broken code instance item) told first all = satisfied-unbroken m c (record { code = code; instance = instance; item = item }) all first.is
+pub told_unsatisfied : (m : Model) (c : List Instance) (v : Verdict) → (v ≡ Satisfied → ⊥) → Tells m c v → IsTrue (satisfies m c) → ⊥
+told_unsatisfied m c Satisfied told first all = told refl
+told_unsatisfied m c (Broken code instance item) told first all = satisfied_unbroken m c (record { code = code; instance = instance; item = item }) all first.is

@@ -7,11 +7,11 @@ use Rattle.prod_model.specs.declared.model.AttrAt.{AttrAt}
 use Rattle.prod_model.specs.Forest.{is_forest}
 use Rattle.prod_model.specs.Taxonomy.{attribute_of, words_of, first_words}
 use Rattle.expr_bounds.specs.Parents.{parent_of}
-use Rattle.expr_bounds.proofs.FirstWords.{first_words-of_new}
+use Rattle.expr_bounds.proofs.FirstWords.{first_words_of_new}
 
-pub own-first_words : (m : Model) → IsTrue (is_forest m) → (t id : ℕ) → option_and_then (λ p. attribute_of m p id) (parent_of m t) ≡ None
+pub own_first_words : (m : Model) → IsTrue (is_forest m) → (t id : ℕ) → option_and_then (λ p. attribute_of m p id) (parent_of m t) ≡ None
     → IsSome (attribute_of m t id) → option_map_or (λ a. words_of a.domain) (attribute_of m t id) [] ≡ first_words m id
-own-first_words m forest t id new known = by_found (attribute_of m t id) known (λ a found. first_words-of_new m forest t id a new found)
+own_first_words m forest t id new known = by_found (attribute_of m t id) known (λ a found. first_words_of_new m forest t id a new found)
   where
     by_found : (o : Option AttrAt) → IsSome o → ((a : AttrAt) → o ≡ Some a → first_words m id ≡ words_of a.domain)
         → option_map_or (λ a. words_of a.domain) o [] ≡ first_words m id

@@ -19,23 +19,23 @@ use Rattle.answer_check.proofs.Masks64.{bit_at_with, bit_at_with_both}
 
 -- ---- the links of part ports, port by port and instance by instance, are all part links
 
-seen-port : (s : Seen) (b : Bool) (links : List ℕ) → cond b (fold seen_after_link s links) s ≡ fold seen_after_link s (cond b links [])
-seen-port s true links = refl
-seen-port s false links = refl
+seen_port : (s : Seen) (b : Bool) (links : List ℕ) → cond b (fold seen_after_link s links) s ≡ fold seen_after_link s (cond b links [])
+seen_port s true links = refl
+seen_port s false links = refl
 
-seen-ports : (s : Seen) (pairs : List (PortAt × List ℕ)) → fold seen_after_port s pairs ≡ fold seen_after_link s (flat_map (λ pair. if is_part pair.0 then pair.1 else []) pairs)
-seen-ports s [] = refl
-seen-ports s (pair ∷ pairs) =
-    seen-ports (seen_after_port s pair) pairs
-    ∙ ap (λ t. fold seen_after_link t (flat_map (λ pair. if is_part pair.0 then pair.1 else []) pairs)) (seen-port s (is_part pair.0) pair.1)
+seen_ports : (s : Seen) (pairs : List (PortAt × List ℕ)) → fold seen_after_port s pairs ≡ fold seen_after_link s (flat_map (λ pair. if is_part pair.0 then pair.1 else []) pairs)
+seen_ports s [] = refl
+seen_ports s (pair ∷ pairs) =
+    seen_ports (seen_after_port s pair) pairs
+    ∙ ap (λ t. fold seen_after_link t (flat_map (λ pair. if is_part pair.0 then pair.1 else []) pairs)) (seen_port s (is_part pair.0) pair.1)
     ∙ sym (fold-append seen_after_link s (if is_part pair.0 then pair.1 else []) (flat_map (λ pair. if is_part pair.0 then pair.1 else []) pairs))
 
-seen-instances : (m : Model) (s : Seen) (c : List Instance) → fold (seen_after_instance m) s c ≡ fold seen_after_link s (part_links m c)
-seen-instances m s [] = refl
-seen-instances m s (x ∷ c) =
+seen_instances : (m : Model) (s : Seen) (c : List Instance) → fold (seen_after_instance m) s c ≡ fold seen_after_link s (part_links m c)
+seen_instances m s [] = refl
+seen_instances m s (x ∷ c) =
     let here = flat_map (λ pair. if is_part pair.0 then pair.1 else []) (zip (ports_at m x.kind) x.links) in
-    seen-instances m (seen_after_instance m s x) c
-    ∙ ap (λ t. fold seen_after_link t (part_links m c)) (seen-ports s (zip (ports_at m x.kind) x.links))
+    seen_instances m (seen_after_instance m s x) c
+    ∙ ap (λ t. fold seen_after_link t (part_links m c)) (seen_ports s (zip (ports_at m x.kind) x.links))
     ∙ sym (fold-append seen_after_link s here (part_links m c))
 
 -- ---- what the masks say of the links
@@ -48,41 +48,41 @@ pub record HasSeen (s : Seen) (links : List ℕ) : Type 0 where
   pub once : (j : ℕ) → j < 64 → bit_at s.once j ≡ cond (nat_le 1 (into j links)) 1 0
   pub twice : (j : ℕ) → j < 64 → bit_at s.twice j ≡ cond (nat_le 2 (into j links)) 1 0
 
-into-next : (j k : ℕ) (links : List ℕ) → into j (links ++ k ∷ []) ≡ into j links + cond (k == j) 1 0
-into-next j k links = fold-append (λ (a : ℕ) (n : ℕ). a + cond (n == j) 1 0) 0 links (k ∷ [])
+into_next : (j k : ℕ) (links : List ℕ) → into j (links ++ k ∷ []) ≡ into j links + cond (k == j) 1 0
+into_next j k links = fold-append (λ (a : ℕ) (n : ℕ). a + cond (n == j) 1 0) 0 links (k ∷ [])
 
-once-next : (b n j k : ℕ) → b ≡ cond (nat_le 1 n) 1 0 → cond (j == k) 1 b ≡ cond (nat_le 1 (n + cond (k == j) 1 0)) 1 0
-once-next b n j k is = elim (cases_eq j k) [ inl same ↦ grind (arith, nat_tests) | inr other ↦ grind (arith, nat_tests) ]
+once_next : (b n j k : ℕ) → b ≡ cond (nat_le 1 n) 1 0 → cond (j == k) 1 b ≡ cond (nat_le 1 (n + cond (k == j) 1 0)) 1 0
+once_next b n j k is = elim (cases_eq j k) [ inl same ↦ grind (arith, nat_tests) | inr other ↦ grind (arith, nat_tests) ]
 
-twice-next : (a b n j k : ℕ) → a ≡ cond (nat_le 1 n) 1 0 → b ≡ cond (nat_le 2 n) 1 0 → cond (j == k) (max b a) b ≡ cond (nat_le 2 (n + cond (k == j) 1 0)) 1 0
-twice-next a b n j k once is = elim (cases_eq j k) [ inl same ↦ grind (arith, nat_tests) | inr other ↦ grind (arith, nat_tests) ]
+twice_next : (a b n j k : ℕ) → a ≡ cond (nat_le 1 n) 1 0 → b ≡ cond (nat_le 2 n) 1 0 → cond (j == k) (max b a) b ≡ cond (nat_le 2 (n + cond (k == j) 1 0)) 1 0
+twice_next a b n j k once is = elim (cases_eq j k) [ inl same ↦ grind (arith, nat_tests) | inr other ↦ grind (arith, nat_tests) ]
 
-has_seen-within : (s : Seen) (links : List ℕ) (k : ℕ) → HasSeen s links → HasSeen (record { once = bit_or s.once (2 ^ k); twice = bit_or s.twice (bit_and s.once (2 ^ k)) }) (links ++ k ∷ [])
-has_seen-within s links k seen = record {
-  once = λ j low. bit_at_with s.once k j ∙ once-next (bit_at s.once j) (into j links) j k (seen.once j low) ∙ ap (λ n. cond (nat_le 1 n) 1 0) (sym (into-next j k links));
-  twice = λ j low. bit_at_with_both s.twice s.once k j ∙ twice-next (bit_at s.once j) (bit_at s.twice j) (into j links) j k (seen.once j low) (seen.twice j low) ∙ ap (λ n. cond (nat_le 2 n) 1 0) (sym (into-next j k links));
+has_seen_within : (s : Seen) (links : List ℕ) (k : ℕ) → HasSeen s links → HasSeen (record { once = bit_or s.once (2 ^ k); twice = bit_or s.twice (bit_and s.once (2 ^ k)) }) (links ++ k ∷ [])
+has_seen_within s links k seen = record {
+  once = λ j low. bit_at_with s.once k j ∙ once_next (bit_at s.once j) (into j links) j k (seen.once j low) ∙ ap (λ n. cond (nat_le 1 n) 1 0) (sym (into_next j k links));
+  twice = λ j low. bit_at_with_both s.twice s.once k j ∙ twice_next (bit_at s.once j) (bit_at s.twice j) (into j links) j k (seen.once j low) (seen.twice j low) ∙ ap (λ n. cond (nat_le 2 n) 1 0) (sym (into_next j k links));
 }
 
-into-other : (j k : ℕ) (links : List ℕ) → (k ≡ j → ⊥) → into j (links ++ k ∷ []) ≡ into j links
-into-other j k links other = into-next j k links ∙ grind (arith, nat_tests)
+into_other : (j k : ℕ) (links : List ℕ) → (k ≡ j → ⊥) → into j (links ++ k ∷ []) ≡ into j links
+into_other j k links other = into_next j k links ∙ grind (arith, nat_tests)
 
-has_seen-past : (s : Seen) (links : List ℕ) (k : ℕ) → 64 ≤ k → HasSeen s links → HasSeen s (links ++ k ∷ [])
-has_seen-past s links k high seen = record {
-  once = λ j low. seen.once j low ∙ ap (λ n. cond (nat_le 1 n) 1 0) (sym (into-other j k links (λ e. omega arith)));
-  twice = λ j low. seen.twice j low ∙ ap (λ n. cond (nat_le 2 n) 1 0) (sym (into-other j k links (λ e. omega arith)));
+has_seen_past : (s : Seen) (links : List ℕ) (k : ℕ) → 64 ≤ k → HasSeen s links → HasSeen s (links ++ k ∷ [])
+has_seen_past s links k high seen = record {
+  once = λ j low. seen.once j low ∙ ap (λ n. cond (nat_le 1 n) 1 0) (sym (into_other j k links (λ e. omega arith)));
+  twice = λ j low. seen.twice j low ∙ ap (λ n. cond (nat_le 2 n) 1 0) (sym (into_other j k links (λ e. omega arith)));
 }
 
-has_seen-next : (s : Seen) (links : List ℕ) (k : ℕ) → HasSeen s links → HasSeen (seen_after_link s k) (links ++ k ∷ [])
-has_seen-next s links k seen = by_test (nat_lt k 64) refl
+has_seen_next : (s : Seen) (links : List ℕ) (k : ℕ) → HasSeen s links → HasSeen (seen_after_link s k) (links ++ k ∷ [])
+has_seen_next s links k seen = by_test (nat_lt k 64) refl
   where
     by_test : (b : Bool) → nat_lt k 64 ≡ b → HasSeen (cond b (record { once = bit_or s.once (2 ^ k); twice = bit_or s.twice (bit_and s.once (2 ^ k)) }) s) (links ++ k ∷ [])
-    by_test true low = has_seen-within s links k seen
-    by_test false high = has_seen-past s links k (grind (arith, nat_tests)) seen
+    by_test true low = has_seen_within s links k seen
+    by_test false high = has_seen_past s links k (grind (arith, nat_tests)) seen
 
-has_seen-all : (s : Seen) (before links : List ℕ) → HasSeen s before → HasSeen (fold seen_after_link s links) (before ++ links)
-has_seen-all s before [] seen = let Seen_of : List ℕ → Type 0 = HasSeen s in subst Seen_of (sym (append-nil before)) seen
-has_seen-all s before (k ∷ links) seen =
-    let rest = has_seen-all (seen_after_link s k) (before ++ k ∷ []) links (has_seen-next s before k seen) in
+has_seen_all : (s : Seen) (before links : List ℕ) → HasSeen s before → HasSeen (fold seen_after_link s links) (before ++ links)
+has_seen_all s before [] seen = let Seen_of : List ℕ → Type 0 = HasSeen s in subst Seen_of (sym (append-nil before)) seen
+has_seen_all s before (k ∷ links) seen =
+    let rest = has_seen_all (seen_after_link s k) (before ++ k ∷ []) links (has_seen_next s before k seen) in
     let Seen_of : List ℕ → Type 0 = HasSeen (fold seen_after_link (seen_after_link s k) links) in
     subst Seen_of (append_assoc before (k ∷ []) links) rest
 
@@ -92,7 +92,7 @@ nothing = record { once = λ j low. bit_at-zero j; twice = λ j low. bit_at-zero
 pub has_seen : (m : Model) (c : List Instance) → HasSeen (seen_in m c) (part_links m c)
 has_seen m c =
     let Has : Seen → Type 0 = λ s. HasSeen s (part_links m c) in
-    subst Has (sym (seen-instances m nothing_seen c)) (has_seen-all nothing_seen [] (part_links m c) nothing)
+    subst Has (sym (seen_instances m nothing_seen c)) (has_seen_all nothing_seen [] (part_links m c) nothing)
 
 -- an instance is overfull where more part links lead to it than may
 pub overfull : (m : Model) (c : List Instance) (j : ℕ) → j < 64 → is_overfull (seen_in m c) j ≡ nat_lt (most_part_links j) (into j (part_links m c))

@@ -5,18 +5,18 @@ use Rattle.config_value.specs.declared.configuration.Instance.{Instance}
 use Rattle.answer_check.specs.Breaks.{shared_part}
 use Rattle.answer_check.specs.Finds.{BreaksAt, FindsItem}
 use Rattle.answer_check.specs.Seen.{seen_in, is_overfull}
-use Rattle.answer_check.proofs.BreakParts.{shared_part-parts}
+use Rattle.answer_check.proofs.BreakParts.{shared_part_parts}
 use Rattle.answer_check.proofs.SeenParts.{overfull}
 
 module _ (m : Model) (c : List Instance) (j : ℕ) (low : j < 64) where
-  pub shared-found : j < length c → is_overfull (seen_in m c) j ≡ true → FindsItem (BreaksAt m c 7 j) (Some 0)
-  shared-found within full = (shared_part refl refl within (ltb-true _ _ (sym (overfull m c j low) ∙ full)), λ k below broken. omega arith)
+  pub shared_found : j < length c → is_overfull (seen_in m c) j ≡ true → FindsItem (BreaksAt m c 7 j) (Some 0)
+  shared_found within full = (shared_part refl refl within (ltb-true _ _ (sym (overfull m c j low) ∙ full)), λ k below broken. omega arith)
 
-  pub shared-none : is_overfull (seen_in m c) j ≡ false → (k : ℕ) → BreaksAt m c 7 j k → ⊥
-  shared-none room k broken =
-      let parts = shared_part-parts m c 7 j k refl broken in
+  pub shared_none : is_overfull (seen_in m c) j ≡ false → (k : ℕ) → BreaksAt m c 7 j k → ⊥
+  shared_none room k broken =
+      let parts = shared_part_parts m c 7 j k refl broken in
       let full = overfull m c j low ∙ lt-ltb _ _ parts.2 in
       absurd cc
 
-pub shared-within : (m : Model) (c : List Instance) (i k : ℕ) → BreaksAt m c 7 i k → i < length c
-shared-within m c i k broken = (shared_part-parts m c 7 i k refl broken).1
+pub shared_within : (m : Model) (c : List Instance) (i k : ℕ) → BreaksAt m c 7 i k → i < length c
+shared_within m c i k broken = (shared_part_parts m c 7 i k refl broken).1

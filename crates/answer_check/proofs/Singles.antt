@@ -11,26 +11,26 @@ use Rattle.config_value.specs.declared.configuration.Instance.{Instance}
 use Rattle.config_value.specs.Value.{under, is_under}
 use Rattle.answer_check.specs.Breaks.{too_many, other_root, bad_count}
 use Rattle.answer_check.specs.Finds.{BreaksAt, FindsItem, FindsPlace}
-use Rattle.answer_check.proofs.BreakParts.{too_many-parts, other_root-parts, bad_count-parts}
-use Rattle.answer_check.proofs.Items.{Passes, finds-position, finds-same}
+use Rattle.answer_check.proofs.BreakParts.{too_many_parts, other_root_parts, bad_count_parts}
+use Rattle.answer_check.proofs.Items.{Passes, finds_position, finds_same}
 use Rattle.answer_check.proofs.FewItems.{few_bounds}
 
 module _ (m : Model) (c : List Instance) where
-  pub none-too_many : length c ≤ m.instances → FindsPlace (BreaksAt m c 1) None
-  none-too_many few i k broken = let parts = too_many-parts m c 1 i k refl broken in omega arith
+  pub none_too_many : length c ≤ m.instances → FindsPlace (BreaksAt m c 1) None
+  none_too_many few i k broken = let parts = too_many_parts m c 1 i k refl broken in omega arith
 
-  pub some-too_many : m.instances < length c → FindsPlace (BreaksAt m c 1) (Some (record { instance = m.instances; item = 0 }))
-  some-too_many many = record {
+  pub some_too_many : m.instances < length c → FindsPlace (BreaksAt m c 1) (Some (record { instance = m.instances; item = 0 }))
+  some_too_many many = record {
     here = too_many refl refl refl many;
-    none_lower = λ i k low broken. let parts = too_many-parts m c 1 i k refl broken in omega arith;
+    none_lower = λ i k low broken. let parts = too_many_parts m c 1 i k refl broken in omega arith;
     none_before = λ k low broken. omega arith;
   }
 
-  pub none-other_root : is_under m c m.root 0 ≡ true → FindsPlace (BreaksAt m c 2) None
-  none-other_root root i k broken = let parts = other_root-parts m c 2 i k refl broken in let other = parts.2 in absurd cc
+  pub none_other_root : is_under m c m.root 0 ≡ true → FindsPlace (BreaksAt m c 2) None
+  none_other_root root i k broken = let parts = other_root_parts m c 2 i k refl broken in let other = parts.2 in absurd cc
 
-  pub some-other_root : is_under m c m.root 0 ≡ false → FindsPlace (BreaksAt m c 2) (Some (record { instance = 0; item = 0 }))
-  some-other_root other = record {
+  pub some_other_root : is_under m c m.root 0 ≡ false → FindsPlace (BreaksAt m c 2) (Some (record { instance = 0; item = 0 }))
+  some_other_root other = record {
     here = other_root refl refl refl other;
     none_lower = λ i k low broken. omega arith;
     none_before = λ k low broken. omega arith;
@@ -39,34 +39,34 @@ module _ (m : Model) (c : List Instance) where
   abbrev pub is_bad : CountBound → Bool
   is_bad n = not (is_between n.low n.high (count_by (under m n.kind) c))
 
-  not-true : (b : Bool) → not b ≡ true → b ≡ false
-  not-true b h = grind arith
+  not_true : (b : Bool) → not b ≡ true → b ≡ false
+  not_true b h = grind arith
 
-  pub bad_count-from : (k : ℕ) → Passes is_bad m.bounds k → BreaksAt m c 9 0 k
-  bad_count-from k passing = bad_count refl refl passing.element passing.there (not-true _ passing.passes)
+  pub bad_count_from : (k : ℕ) → Passes is_bad m.bounds k → BreaksAt m c 9 0 k
+  bad_count_from k passing = bad_count refl refl passing.element passing.there (not_true _ passing.passes)
 
-  pub passes-bad_count : (k : ℕ) → BreaksAt m c 9 0 k → Passes is_bad m.bounds k
-  passes-bad_count k broken =
-      let parts = bad_count-parts m c 9 0 k refl broken in record { element = parts.1; there = parts.2; passes = ap not parts.3 }
+  pub passes_bad_count : (k : ℕ) → BreaksAt m c 9 0 k → Passes is_bad m.bounds k
+  passes_bad_count k broken =
+      let parts = bad_count_parts m c 9 0 k refl broken in record { element = parts.1; there = parts.2; passes = ap not parts.3 }
 
-  finds-bad_count : (o : Option ℕ) → o ≡ position is_bad m.bounds → FindsItem (BreaksAt m c 9 0) o
-  finds-bad_count o is = finds-same (Passes is_bad m.bounds) (BreaksAt m c 9 0) o bad_count-from passes-bad_count (finds-position is_bad m.bounds o is)
+  finds_bad_count : (o : Option ℕ) → o ≡ position is_bad m.bounds → FindsItem (BreaksAt m c 9 0) o
+  finds_bad_count o is = finds_same (Passes is_bad m.bounds) (BreaksAt m c 9 0) o bad_count_from passes_bad_count (finds_position is_bad m.bounds o is)
 
   first_instance : (i k : ℕ) → BreaksAt m c 9 i k → BreaksAt m c 9 0 k
-  first_instance i k broken = let Broken : ℕ → Type 0 = λ j. BreaksAt m c 9 j k in subst Broken (bad_count-parts m c 9 i k refl broken).0 broken
+  first_instance i k broken = let Broken : ℕ → Type 0 = λ j. BreaksAt m c 9 j k in subst Broken (bad_count_parts m c 9 i k refl broken).0 broken
 
-  pub none-bad_count : None ≡ position is_bad m.bounds → FindsPlace (BreaksAt m c 9) None
-  none-bad_count is i k broken = finds-bad_count None is k (first_instance i k broken)
+  pub none_bad_count : None ≡ position is_bad m.bounds → FindsPlace (BreaksAt m c 9) None
+  none_bad_count is i k broken = finds_bad_count None is k (first_instance i k broken)
 
-  pub some-bad_count : (k : ℕ) → Some k ≡ position is_bad m.bounds → FindsPlace (BreaksAt m c 9) (Some (record { instance = 0; item = k }))
-  some-bad_count k is = record {
-    here = (finds-bad_count (Some k) is).0;
+  pub some_bad_count : (k : ℕ) → Some k ≡ position is_bad m.bounds → FindsPlace (BreaksAt m c 9) (Some (record { instance = 0; item = k }))
+  some_bad_count k is = record {
+    here = (finds_bad_count (Some k) is).0;
     none_lower = λ i j low broken. omega arith;
-    none_before = (finds-bad_count (Some k) is).1;
+    none_before = (finds_bad_count (Some k) is).1;
   }
 
-  pub few-bad_counts : IsValid m → (k : ℕ) → Some k ≡ position is_bad m.bounds → k < 128
-  few-bad_counts valid k is =
-      let passing = (finds-position is_bad m.bounds (Some k) is).0 in
+  pub few_bad_counts : IsValid m → (k : ℕ) → Some k ≡ position is_bad m.bounds → k < 128
+  few_bad_counts valid k is =
+      let passing = (finds_position is_bad m.bounds (Some k) is).0 in
       let within : k < length m.bounds = slice_get_within m.bounds k passing.element passing.there in
       omega (arith, few_bounds m valid)

@@ -111,8 +111,8 @@ few_instances m is =
     (Places.is_between_at 1 Limits.most_instances m.instances limits).1
 
 -- a number at most a second one, which is at most a third, is at most the third
-le-trans : (a b c : ℤ) → IsTrue (int_le a b) → IsTrue (int_le b c) → IsTrue (int_le a c)
-le-trans a b c first second = grind (arith, ints)
+le_trans : (a b c : ℤ) → IsTrue (int_le a b) → IsTrue (int_le b c) → IsTrue (int_le a c)
+le_trans a b c first second = grind (arith, ints)
 
 -- a value in a domain with such ends can be spelled
 value_spelled : (m : Model) (a : AttrAt) (v : ℤ) → IsTrue (has_ends a.domain) → IsTrue (has_value m a v) → IsTrue (is_spelled_value m a v)
@@ -124,7 +124,7 @@ value_spelled m a v ends value = by a.domain v ends value
         let far = and_parts _ _ ends in
         let both = and_parts _ _ far.0 in
         let inside = and_parts _ _ value in
-        and_from _ _ (le-trans (neg_ℤ Limits.farthest_end) low v (and_parts _ _ both.0).0 inside.0) (le-trans v high Limits.farthest_end inside.1 (and_parts _ _ both.1).1)
+        and_from _ _ (le_trans (neg_ℤ Limits.farthest_end) low v (and_parts _ _ both.0).0 inside.0) (le_trans v high Limits.farthest_end inside.1 (and_parts _ _ both.1).1)
     by (Words words) (pos n) ends value =
         let word = Places.option_map_or_at (λ w. list_any (same_text w) words) (slice_get (first_words m a.id) n) value in
         lt-ltb n (length (first_words m a.id)) (slice_get_within (first_words m a.id) n word.0 word.1)

@@ -12,7 +12,7 @@ use Rattle.prod_model.specs.declared.expr.Expr.{Expr}
 use Rattle.config_value.specs.declared.configuration.Instance.{Instance}
 use Rattle.config_value.specs.Shaped.{instance_numbers}
 use Rattle.config_value.specs.Value.{is_true_at, links_at_instance}
-use Rattle.config_value.proofs.Places.{list_any_at, list_any_from, slice_get-range_with_len}
+use Rattle.config_value.proofs.Places.{list_any_at, list_any_from, slice_get_range_with_len}
 use Rattle.answer_check.specs.declared.instance_set.InstanceSet.{InstanceSet}
 use Rattle.answer_check.specs.Finds.{FindsItem}
 use Rattle.answer_check.specs.Evaluable.{HasBoundsAtEach}
@@ -65,14 +65,14 @@ list_all_not p (x ∷ xs) = ap (λ b. not (p x) && b) (list_all_not p xs) ∙ no
 -- ---- sets
 
 -- an expression has bounds at instances of the configuration alone
-pub bounded-within : (m : Model) (c : List Instance) (among : InstanceSet) (e : Expr) → HasBoundsAmong m c among e → (i : ℕ) → IsTrue (is_member among i) → i < length c
-bounded-within m c among e bounded i here = let at = bounded i here in slice_get_within c i at.instance at.stands
+pub bounded_within : (m : Model) (c : List Instance) (among : InstanceSet) (e : Expr) → HasBoundsAmong m c among e → (i : ℕ) → IsTrue (is_member among i) → i < length c
+bounded_within m c among e bounded i here = let at = bounded i here in slice_get_within c i at.instance at.stands
 
 module _ (m : Model) (c : List Instance) (p : ℕ) (among linked : InstanceSet)
     (from : (j : ℕ) → is_member linked j ≡ list_any (λ i. is_member among i && list_any (λ k. k == j) (links_at_instance m c p i)) (instance_numbers c)) where
   -- what has bounds at each link of the members of a set has them at each instance that is linked from the set
-  pub linked-bounded : (e : Expr) → ((i : ℕ) → IsTrue (is_member among i) → HasBoundsAtEach m c (links_at_instance m c p i) e) → HasBoundsAmong m c linked e
-  linked-bounded e each j here =
+  pub linked_bounded : (e : Expr) → ((i : ℕ) → IsTrue (is_member among i) → HasBoundsAtEach m c (links_at_instance m c p i) e) → HasBoundsAmong m c linked e
+  linked_bounded e each j here =
       let found = list_any_at (λ i. is_member among i && list_any (λ k. k == j) (links_at_instance m c p i)) (instance_numbers c) (sym (from j) ∙ here) in
       let both = and_parts _ _ found.3 in
       let link = list_any_at (λ k. k == j) (links_at_instance m c p found.1) both.1 in
@@ -80,46 +80,46 @@ module _ (m : Model) (c : List Instance) (p : ℕ) (among linked : InstanceSet)
 
   module _ (within : (i : ℕ) → IsTrue (is_member among i) → i < length c) where
     -- each link of a member leads to an instance that is linked
-    link-member : (i : ℕ) → IsTrue (is_member among i) → (k j : ℕ) → slice_get (links_at_instance m c p i) k ≡ Some j → is_member linked j ≡ true
-    link-member i here k j at =
-        let there = slice_get-range_with_len 0 (length c) i (within i here) ∙ ap Some (zero-add i) in
+    link_member : (i : ℕ) → IsTrue (is_member among i) → (k j : ℕ) → slice_get (links_at_instance m c p i) k ≡ Some j → is_member linked j ≡ true
+    link_member i here k j at =
+        let there = slice_get_range_with_len 0 (length c) i (within i here) ∙ ap Some (zero-add i) in
         let link = list_any_from (λ k. k == j) (links_at_instance m c p i) k j at (eq-eqb j j refl) in
         from j ∙ list_any_from (λ i. is_member among i && list_any (λ k. k == j) (links_at_instance m c p i)) (instance_numbers c) i i there (and_from _ _ here link)
 
     module _ (e : Expr) (found : InstanceSet) (are : AreTrueAmong m c linked e found) where
       -- at a link of a member the expression is true where that link has been found
-      found-member : (i : ℕ) → IsTrue (is_member among i) → (k j : ℕ) → slice_get (links_at_instance m c p i) k ≡ Some j → is_member found j ≡ is_true_at m c j e
-      found-member i here k j at = are j ∙ ap (λ b. b && is_true_at m c j e) (link-member i here k j at)
+      found_member : (i : ℕ) → IsTrue (is_member among i) → (k j : ℕ) → slice_get (links_at_instance m c p i) k ≡ Some j → is_member found j ≡ is_true_at m c j e
+      found_member i here k j at = are j ∙ ap (λ b. b && is_true_at m c j e) (link_member i here k j at)
 
       -- of a set, those all whose links have been found are those at all whose links the expression is true
-      pub all-linked : (i : ℕ) → (is_member among i && list_all (is_member found) (links_at_instance m c p i))
+      pub all_linked : (i : ℕ) → (is_member among i && list_all (is_member found) (links_at_instance m c p i))
           ≡ (is_member among i && list_all (λ j. is_true_at m c j e) (links_at_instance m c p i))
-      all-linked i =
-          and_same _ _ _ (λ here. list_all_same (is_member found) (λ j. is_true_at m c j e) (links_at_instance m c p i) (found-member i here))
+      all_linked i =
+          and_same _ _ _ (λ here. list_all_same (is_member found) (λ j. is_true_at m c j e) (links_at_instance m c p i) (found_member i here))
 
       -- and those not all whose links are others are those at some of whose links it is true
-      pub any-linked : (others : InstanceSet) → ((j : ℕ) → is_member others j ≡ (is_member linked j && not (is_member found j)))
+      pub any_linked : (others : InstanceSet) → ((j : ℕ) → is_member others j ≡ (is_member linked j && not (is_member found j)))
           → (i : ℕ) → (is_member among i && list_all (is_member others) (links_at_instance m c p i))
           ≡ (is_member among i && not (list_any (λ j. is_true_at m c j e) (links_at_instance m c p i)))
-      any-linked others is i =
+      any_linked others is i =
           and_same _ _ _ (λ here.
           list_all_same (is_member others) (λ j. not (is_true_at m c j e)) (links_at_instance m c p i)
-          (λ k j at. is j ∙ ap₂ (λ a b. a && not b) (link-member i here k j at) (found-member i here k j at))
+          (λ k j at. is j ∙ ap₂ (λ a b. a && not b) (link_member i here k j at) (found_member i here k j at))
           ∙ list_all_not (λ j. is_true_at m c j e) (links_at_instance m c p i))
 
 -- ---- a set of one instance
 
 -- of a set that has one instance at most, there is a first where the test of that one is true
-first-some : (found : InstanceSet) (i : ℕ) (b : Bool) (o : Option ℕ) → ((k : ℕ) → is_member found k ≡ ((k == i) && b))
+first_some : (found : InstanceSet) (i : ℕ) (b : Bool) (o : Option ℕ) → ((k : ℕ) → is_member found k ≡ ((k == i) && b))
     → FindsItem (λ j. IsTrue (is_member found j)) o → is_some o ≡ b
-first-some found i b None is none = sym (false_from_ne_true b (λ right. none i (is i ∙ and_from _ _ (eq-eqb i i refl) right)))
-first-some found i b (Some k) is first = sym (and_parts _ _ (sym (is k) ∙ first.0)).1
+first_some found i b None is none = sym (false_from_ne_true b (λ right. none i (is i ∙ and_from _ _ (eq-eqb i i refl) right)))
+first_some found i b (Some k) is first = sym (and_parts _ _ (sym (is k) ∙ first.0)).1
 
 -- so it is where a set of one instance is narrowed to those that pass
-pub first-alone : (passes : ℕ → Bool) (i : ℕ) (empty alone found : InstanceSet) (o : Option ℕ) → i < 64
+pub first_alone : (passes : ℕ → Bool) (i : ℕ) (empty alone found : InstanceSet) (o : Option ℕ) → i < 64
     → ((k : ℕ) → is_member empty k ≡ false) → ((k : ℕ) → is_member alone k ≡ (is_member empty k || ((k == i) && nat_lt i 64)))
     → ((k : ℕ) → is_member found k ≡ (is_member alone k && passes k)) → FindsItem (λ j. IsTrue (is_member found j)) o → is_some o ≡ passes i
-first-alone passes i empty alone found o low none one is first =
-    first-some found i (passes i) o (λ k.
+first_alone passes i empty alone found o low none one is first =
+    first_some found i (passes i) o (λ k.
     is k ∙ ap (λ b. b && passes k) (one k ∙ ap₂ (λ a b. a || ((k == i) && b)) (none k) (lt-ltb i 64 low) ∙ and-true (k == i))
     ∙ and_same (k == i) (passes k) (passes i) (λ same. ap passes (eqb-true k i same))) first

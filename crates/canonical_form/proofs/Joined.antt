@@ -8,6 +8,6 @@ use Rattle.canonical_form.specs.Pieces.{numbers_piece}
 abbrev pub after_commas : List ℕ → List ℕ
 after_commas ns = flat_map (λ n. 44 ∷ decimal n) ns
 
-pub numbers_piece-cons : (n : ℕ) (ns : List ℕ) → numbers_piece (n ∷ ns) ≡ decimal n ++ after_commas ns
-numbers_piece-cons n [] = sym (append-nil (decimal n))
-numbers_piece-cons n (k ∷ ns) = ap (λ rest. decimal n ++ (44 ∷ rest)) (numbers_piece-cons k ns)
+pub numbers_piece_cons : (n : ℕ) (ns : List ℕ) → numbers_piece (n ∷ ns) ≡ decimal n ++ after_commas ns
+numbers_piece_cons n [] = sym (append-nil (decimal n))
+numbers_piece_cons n (k ∷ ns) = ap (λ rest. decimal n ++ (44 ∷ rest)) (numbers_piece_cons k ns)

@@ -9,7 +9,7 @@ use Rattle.prod_model.specs.declared.model.Model.{Model}
 use Rattle.prod_model.specs.declared.model.TypeDecl.{TypeDecl}
 use Rattle.prod_model.specs.Forest.{line, is_leaf}
 use Rattle.prod_model.specs.Valid.{IsValid, has_known_types}
-use Rattle.prod_model.proofs.ForestLines.{HasNoCycle, HasParent, no_cycle, line-short, line-parent}
+use Rattle.prod_model.proofs.ForestLines.{HasNoCycle, HasParent, no_cycle, line_short, line_parent}
 
 -- a leaf type
 pub record HasLeaf (m : Model) : Type 0 where
@@ -57,10 +57,10 @@ leaf_or m t within false none longer = longer (some_child m.types t none)
 leaf_below : (m : Model) → HasNoCycle m.types → (room t : ℕ) → t < length m.types → length m.types ≤ length (line m.types t) + room → HasLeaf m
 leaf_below m forest zero t within long =
     leaf_or m t within (list_all (λ d. not (has_parent t d)) m.types) refl (λ has.
-    let longer = ap length (line-parent m.types forest has.child t has.is) in let short = line-short m.types forest has.child in absurd (omega arith))
+    let longer = ap length (line_parent m.types forest has.child t has.is) in let short = line_short m.types forest has.child in absurd (omega arith))
 leaf_below m forest (suc room) t within long =
     leaf_or m t within (list_all (λ d. not (has_parent t d)) m.types) refl (λ has.
-    let longer = ap length (line-parent m.types forest has.child t has.is) in
+    let longer = ap length (line_parent m.types forest has.child t has.is) in
     leaf_below m forest room has.child (child_within m.types has.child has.is.decl has.is.stands) (omega arith))
 
 root_within : (m : Model) → IsValid m → m.root < length m.types

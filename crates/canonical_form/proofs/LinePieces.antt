@@ -12,27 +12,27 @@ use Rattle.prod_model.specs.declared.model.Domain.{Domain}
 use Rattle.prod_model.specs.declared.model.Domain.TheVariants.{Range, Words}
 use Rattle.prod_model.specs.Taxonomy.{Named, words_of, first_words, attributes_of, attributes_at, ports_of}
 use Rattle.config_value.specs.Spelled.{is_spelled_value}
-use Rattle.canonical_form.proofs.SameNames.{map-map}
+use Rattle.canonical_form.proofs.SameNames.{map_map}
 use Rattle.canonical_form.specs.AnswerText.{word_at, attribute_text, port_text}
 use Rattle.canonical_form.specs.Pieces.{word_piece, value_piece, is_written_value, is_written, attribute_piece, numbers_piece, port_piece}
 
-word_piece-at : (m : Model) (a : AttrAt) (v : ℤ) → word_piece (first_words m a.id) v ≡ word_at m a v
-word_piece-at m a (pos n) = refl
-word_piece-at m a (negsuc n) = refl
+word_piece_at : (m : Model) (a : AttrAt) (v : ℤ) → word_piece (first_words m a.id) v ≡ word_at m a v
+word_piece_at m a (pos n) = refl
+word_piece_at m a (negsuc n) = refl
 
-value_piece-text : (m : Model) (a : AttrAt) (domain : Domain) (v : ℤ)
+value_piece_text : (m : Model) (a : AttrAt) (domain : Domain) (v : ℤ)
     → value_piece (first_words m a.id) domain v ≡ elim domain [ Range low high ↦ signed_decimal v | Words words ↦ word_at m a v ]
-value_piece-text m a (Range low high) v = refl
-value_piece-text m a (Words words) v = word_piece-at m a v
+value_piece_text m a (Range low high) v = refl
+value_piece_text m a (Words words) v = word_piece_at m a v
 
 -- the piece of an attribute's first declaration is the text of the attribute
-pub attribute_piece-text : (m : Model) (d : AttrDecl) (e : Named AttrAt) (v : ℤ) → d.name ≡ e.name → words_of d.domain ≡ first_words m e.what.id
+pub attribute_piece_text : (m : Model) (d : AttrDecl) (e : Named AttrAt) (v : ℤ) → d.name ≡ e.name → words_of d.domain ≡ first_words m e.what.id
     → attribute_piece (d, (e.what, v)) ≡ attribute_text m (e, v)
 unfolding attribute_piece
-attribute_piece-text m d e v name words =
+attribute_piece_text m d e v name words =
     ap (λ n. codes " " ++ n ++ codes "=" ++ value_piece (words_of d.domain) e.what.domain v) name
     ∙ ap (λ w. codes " " ++ e.name ++ codes "=" ++ value_piece w e.what.domain v) words
-    ∙ ap (λ t. codes " " ++ e.name ++ codes "=" ++ t) (value_piece-text m e.what e.what.domain v)
+    ∙ ap (λ t. codes " " ++ e.name ++ codes "=" ++ t) (value_piece_text m e.what e.what.domain v)
 
 pub attribute_pieces : (m : Model) (firsts : List AttrDecl) (es : List (Named AttrAt)) (values : List ℤ)
     → map (λ d. d.name) firsts ≡ map (λ e. e.name) es
@@ -43,7 +43,7 @@ attribute_pieces m [] (e ∷ es) values names words = absurd (cc)
 attribute_pieces m (d ∷ ds) [] values names words = absurd (cc)
 attribute_pieces m (d ∷ ds) (e ∷ es) [] names words = refl
 attribute_pieces m (d ∷ ds) (e ∷ es) (v ∷ values) names words =
-    ap (λ t. t ++ flat_map attribute_piece (zip ds (zip (map (λ e. e.what) es) values))) (attribute_piece-text m d e v (cc) (cc))
+    ap (λ t. t ++ flat_map attribute_piece (zip ds (zip (map (λ e. e.what) es) values))) (attribute_piece_text m d e v (cc) (cc))
     ∙ ap (λ t. attribute_text m (e, v) ++ t) (attribute_pieces m ds es values (cc) (cc))
 
 pub all_written : (m : Model) (firsts : List AttrDecl) (attrs : List AttrAt) (values : List ℤ)
@@ -79,13 +79,13 @@ module _ {R : Type 0} (read : R → AttrDecl) (m : Model) (kind : ℕ) (firsts :
   pub attributes_text : (values : List ℤ)
       → flat_map attribute_piece (zip (map read firsts) (zip (attributes_at m kind) values)) ≡ flat_map (attribute_text m) (zip (attributes_of m.types kind) values)
   attributes_text values =
-      attribute_pieces m (map read firsts) (attributes_of m.types kind) values (map-map (λ d. d.name) read firsts ∙ names) (map-map (λ d. words_of d.domain) read firsts ∙ words)
+      attribute_pieces m (map read firsts) (attributes_of m.types kind) values (map_map (λ d. d.name) read firsts ∙ names) (map_map (λ d. words_of d.domain) read firsts ∙ words)
 
   pub attributes_written : (values : List ℤ) → pointwise (is_spelled_value m) (attributes_at m kind) values ≡ true
       → list_all is_written (zip (map read firsts) (zip (attributes_at m kind) values)) ≡ true
-  attributes_written values = all_written m (map read firsts) (attributes_at m kind) values (map-map (λ d. words_of d.domain) read firsts ∙ words)
+  attributes_written values = all_written m (map read firsts) (attributes_at m kind) values (map_map (λ d. words_of d.domain) read firsts ∙ words)
 
 pub ports_text : {R : Type 0} (read : R → PortDecl) (m : Model) (kind : ℕ) (firsts : List R) (links : List (List ℕ))
     → map (λ d. (read d).name) firsts ≡ map (λ e. e.name) (ports_of m.types kind)
     → flat_map port_piece (zip (map read firsts) links) ≡ flat_map port_text (zip (ports_of m.types kind) links)
-ports_text read m kind firsts links names = port_pieces (map read firsts) (ports_of m.types kind) links (map-map (λ d. d.name) read firsts ∙ names)
+ports_text read m kind firsts links names = port_pieces (map read firsts) (ports_of m.types kind) links (map_map (λ d. d.name) read firsts ∙ names)

@@ -14,15 +14,15 @@ use Rattle.canonical_form.specs.Grammar.{State, at_number, at_type, at_members, 
 use Rattle.canonical_form.specs.Reading.{Takes, TakesNone, type_text, AreValues, AreLinks, IsInstance, Refuses}
 use Rattle.canonical_form.specs.declared.fault.AnswerRefusal.{AnswerRefusal}
 use Rattle.canonical_form.specs.declared.fault.AnswerRefusal.TheVariants.{Line, Memory}
-use Rattle.canonical_form.proofs.Paths.{BeginsThen-append, Reads-one, Stops-then, Stops-here}
-use Rattle.canonical_form.proofs.SpelledPaths.{attributes-lead, ports-lead}
+use Rattle.canonical_form.proofs.Paths.{BeginsThen_append, Reads_one, Stops_then, Stops_here}
+use Rattle.canonical_form.proofs.SpelledPaths.{attributes_lead, ports_lead}
 use Rattle.canonical_form.proofs.Rebuilt.{spelled_instance}
 
 -- ---- where a line stops
 
 pub number_stops : (m : Model) (n : ℕ) (bytes : List ℕ) → (0 < n → bytes ≢ []) → ((rest : List ℕ) → ¬ Takes (decimal n) behind_number bytes rest) → Stops m (at_number n) bytes (n + 2) 2
 number_stops m n bytes unended none =
-    Stops-here m (at_number n) bytes (λ p t behind follows parts ends. none behind (record {
+    Stops_here m (at_number n) bytes (λ p t behind follows parts ends. none behind (record {
       parts = parts ∙ ap (λ (q : Part). q.text ++ behind) follows.1;
       ends = subst (λ (q : Part). IsTrue (ends_there q.end behind)) follows.1 ends;
     })) (λ k same. let e = same_number n (suc k) same in unended (omega arith))
@@ -32,29 +32,29 @@ number_stops m n bytes unended none =
 
 pub type_stops : (m : Model) (n : ℕ) (bytes : List ℕ) → TakesNone (type_text m) (λ t. behind_name) (is_leaf m) bytes → Stops m (at_type n) bytes (n + 2) 3
 type_stops m n bytes none =
-    Stops-here m (at_type n) bytes (λ p t behind follows parts ends. none follows.0 behind follows.1 (record {
+    Stops_here m (at_type n) bytes (λ p t behind follows parts ends. none follows.0 behind follows.1 (record {
       parts = parts ∙ ap (λ (q : Part). q.text ++ behind) follows.2;
       ends = subst (λ (q : Part). IsTrue (ends_there q.end behind)) follows.2 ends;
     })) (λ k same. absurd (cc))
 
 pub end_stops : (m : Model) (n : ℕ) (bytes : List ℕ) → ((rest : List ℕ) → bytes ≢ 10 ∷ rest) → Stops m (at_members n [] []) bytes (n + 2) 6
 end_stops m n bytes none =
-    Stops-here m (at_members n [] []) bytes (λ p t behind follows parts ends. none behind (parts ∙ ap (λ (q : Part). q.text ++ behind) follows.0)) (λ k same. absurd (cc))
+    Stops_here m (at_members n [] []) bytes (λ p t behind follows parts ends. none behind (parts ∙ ap (λ (q : Part). q.text ++ behind) follows.0)) (λ k same. absurd (cc))
 
 -- ---- a line that is read
 
 pub number_reads : (m : Model) (n : ℕ) (bytes rest : List ℕ) → n < 64 → Takes (decimal n) behind_number bytes rest → Reads m (at_number n) bytes (at_type n) rest
-number_reads m n bytes rest few takes = Reads-one m (at_number n) (at_type n) (number_part n) bytes rest (few, refl, refl) takes.parts takes.ends
+number_reads m n bytes rest few takes = Reads_one m (at_number n) (at_type n) (number_part n) bytes rest (few, refl, refl) takes.parts takes.ends
 
 pub type_reads : (m : Model) (n t : ℕ) (bytes rest : List ℕ) → IsTrue (is_leaf m t) → Takes (type_text m t) behind_name bytes rest
     → Reads m (at_type n) bytes (at_members n (attributes_of m.types t) (ports_of m.types t)) rest
-type_reads m n t bytes rest leaf takes = Reads-one m (at_type n) (at_members n (attributes_of m.types t) (ports_of m.types t)) (type_part m n t) bytes rest (t, leaf, refl, refl) takes.parts takes.ends
+type_reads m n t bytes rest leaf takes = Reads_one m (at_type n) (at_members n (attributes_of m.types t) (ports_of m.types t)) (type_part m n t) bytes rest (t, leaf, refl, refl) takes.parts takes.ends
 
 pub values_reads : (m : Model) (n t : ℕ) (bytes : List ℕ) (values : List ℤ) (rest : List ℕ) → AreValues m n t bytes values rest
     → Reads m (at_members n (attributes_of m.types t) (ports_of m.types t)) bytes (at_members n [] (ports_of m.types t)) rest
 values_reads m n t bytes values rest are = record {
   read = map (attribute_part m (n + 2)) (zip (attributes_of m.types t) values);
-  leads = attributes-lead m n (attributes_of m.types t) (ports_of m.types t) values are.spelled;
+  leads = attributes_lead m n (attributes_of m.types t) (ports_of m.types t) values are.spelled;
   begins = are.begins;
 }
 
@@ -62,7 +62,7 @@ pub links_reads : (m : Model) (n t : ℕ) (bytes : List ℕ) (links : List (List
     → Reads m (at_members n [] (ports_of m.types t)) bytes (at_members n [] []) rest
 links_reads m n t bytes links rest are = record {
   read = map (port_part (n + 2)) (zip (ports_of m.types t) links);
-  leads = ports-lead m n (ports_of m.types t) links are.long are.spelled;
+  leads = ports_lead m n (ports_of m.types t) links are.long are.spelled;
   begins = are.begins;
 }
 
@@ -76,16 +76,16 @@ pub instance_read : (m : Model) (n : ℕ) (x : Instance) (bytes typed named valu
 unfolding instance_parts
 instance_read m n x bytes typed named valued linked rest number leaf type values links end = record {
   begins =
-      let line = BeginsThen-append (map (attribute_part m (n + 2)) (zip (attributes_of m.types x.kind) x.values)) (map (port_part (n + 2)) (zip (ports_of m.types x.kind) x.links)) named valued linked values.begins links.begins in
+      let line = BeginsThen_append (map (attribute_part m (n + 2)) (zip (attributes_of m.types x.kind) x.values)) (map (port_part (n + 2)) (zip (ports_of m.types x.kind) x.links)) named valued linked values.begins links.begins in
       let ended : BeginsThen (end_part (n + 2) ∷ []) linked rest = (rest, end, no_end rest, refl) in
-      (typed, number.parts, number.ends, (named, type.parts, type.ends, BeginsThen-append _ (end_part (n + 2) ∷ []) named linked rest line ended));
+      (typed, number.parts, number.ends, (named, type.parts, type.ends, BeginsThen_append _ (end_part (n + 2) ∷ []) named linked rest line ended));
   spelled = spelled_instance m x leaf values.spelled links.long links.spelled;
 }
 
 -- ---- a refusal further on
 
 pub refused_behind : (m : Model) (s t : State) (bytes middle : List ℕ) (e : AnswerRefusal) → Reads m s bytes t middle → Refuses m t middle e → Refuses m s bytes e
-refused_behind m s t bytes middle (Line fault) reads stops = Stops-then m s t bytes middle fault.line fault.code reads stops
+refused_behind m s t bytes middle (Line fault) reads stops = Stops_then m s t bytes middle fault.line fault.code reads stops
 refused_behind m s t bytes middle (Memory e) reads stops = tt
 
 pub same_refusal : {X : Type 0} (r : Result X AnswerRefusal) (e : AnswerRefusal) (P : AnswerRefusal → Type 0) → IsErrAnd r (λ f. f ≡ e) → P e → IfErr r P

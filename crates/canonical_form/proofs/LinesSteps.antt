@@ -8,8 +8,8 @@ use Rattle.config_value.specs.declared.configuration.Instance.{Instance}
 use Rattle.canonical_form.specs.AnswerParts.{instance_parts}
 use Rattle.canonical_form.specs.Grammar.{at_number, BeginsThen, Reads, Stops, is_spelled_instance}
 use Rattle.canonical_form.specs.Reading.{IsInstance, AreInstances}
-use Rattle.canonical_form.proofs.Paths.{BeginsThen-append, Stops-then, Stops-here}
-use Rattle.canonical_form.proofs.SpelledPaths.{HasSpelledInstances, lines-lead}
+use Rattle.canonical_form.proofs.Paths.{BeginsThen_append, Stops_then, Stops_here}
+use Rattle.canonical_form.proofs.SpelledPaths.{HasSpelledInstances, lines_lead}
 use Rattle.canonical_form.proofs.MemberSteps.{all_push}
 
 -- the first instances are read, so many
@@ -22,23 +22,23 @@ pub record HasInstances (m : Model) (n : ℕ) (bytes : List ℕ) (c : List Insta
 pub no_instances : (m : Model) (bytes : List ℕ) → HasInstances m 0 bytes [] bytes
 no_instances m bytes = record { begins = refl; spelled = refl; count = refl; few = omega arith }
 
-enumerate-push : {X : Type 0} (n : ℕ) (xs : List X) (x : X) → enumerate_from n (xs ++ x ∷ []) ≡ enumerate_from n xs ++ (n + length xs, x) ∷ []
-enumerate-push n [] x = let e : n ≡ n + 0 = omega arith in ap (λ k. (k, x) ∷ []) e
-enumerate-push n (y ∷ ys) x =
+enumerate_push : {X : Type 0} (n : ℕ) (xs : List X) (x : X) → enumerate_from n (xs ++ x ∷ []) ≡ enumerate_from n xs ++ (n + length xs, x) ∷ []
+enumerate_push n [] x = let e : n ≡ n + 0 = omega arith in ap (λ k. (k, x) ∷ []) e
+enumerate_push n (y ∷ ys) x =
     let e : n + 1 + length ys ≡ n + suc (length ys) = omega arith in
-    ap (λ ps. (n, y) ∷ ps) (enumerate-push (n + 1) ys x ∙ ap (λ k. enumerate_from (n + 1) ys ++ (k, x) ∷ []) e)
+    ap (λ ps. (n, y) ∷ ps) (enumerate_push (n + 1) ys x ∙ ap (λ k. enumerate_from (n + 1) ys ++ (k, x) ∷ []) e)
 
 pub instances_more : (m : Model) (n : ℕ) (bytes : List ℕ) (c : List Instance) (rest : List ℕ) (x : Instance) (after : List ℕ) (new : List Instance) → n < 64
     → HasInstances m n bytes c rest → IsInstance m n rest x after → new ≡ c ++ x ∷ [] → HasInstances m (n + 1) bytes new after
 instances_more m n bytes c rest x after new room has is pushed =
     let place : 0 + length c ≡ n = let k = has.count in omega arith in
     let lines : flat_map (instance_parts m) (enumerate_from 0 (c ++ x ∷ [])) ≡ flat_map (instance_parts m) (enumerate_from 0 c) ++ instance_parts m (n, x) =
-    ap (flat_map (instance_parts m)) (enumerate-push 0 c x ∙ ap (λ k. enumerate_from 0 c ++ (k, x) ∷ []) place)
+    ap (flat_map (instance_parts m)) (enumerate_push 0 c x ∙ ap (λ k. enumerate_from 0 c ++ (k, x) ∷ []) place)
     ∙ flat_map-append (instance_parts m) (enumerate_from 0 c) ((n, x) ∷ []) ∙ ap (λ ps. flat_map (instance_parts m) (enumerate_from 0 c) ++ ps) (append-nil (instance_parts m (n, x))) in
     let longer = length-append c (x ∷ []) in
     let counted = has.count in
     let made : HasInstances m (n + 1) bytes (c ++ x ∷ []) after = record {
-      begins = subst (λ ps. BeginsThen ps bytes after) (sym lines) (BeginsThen-append (flat_map (instance_parts m) (enumerate_from 0 c)) (instance_parts m (n, x)) bytes rest after has.begins is.begins);
+      begins = subst (λ ps. BeginsThen ps bytes after) (sym lines) (BeginsThen_append (flat_map (instance_parts m) (enumerate_from 0 c)) (instance_parts m (n, x)) bytes rest after has.begins is.begins);
       spelled = all_push (is_spelled_instance m) c x has.spelled is.spelled;
       count = omega arith;
       few = omega arith;
@@ -48,16 +48,16 @@ instances_more m n bytes c rest x after new room has is pushed =
 pub instances_read : (m : Model) (n : ℕ) (bytes : List ℕ) (c : List Instance) (rest : List ℕ) → HasInstances m n bytes c rest → Reads m (at_number 0) bytes (at_number n) rest
 instances_read m n bytes c rest has =
     let counted = has.count in
-    record { read = flat_map (instance_parts m) (enumerate_from 0 c); leads = lines-lead m 0 c n has.spelled (omega arith) has.few; begins = has.begins }
+    record { read = flat_map (instance_parts m) (enumerate_from 0 c); leads = lines_lead m 0 c n has.spelled (omega arith) has.few; begins = has.begins }
 
 -- behind the last number that there can be something stands
 pub past_stops : (m : Model) (bytes : List ℕ) → bytes ≢ [] → Stops m (at_number 64) bytes 66 2
-past_stops m bytes some = Stops-here m (at_number 64) bytes (λ p t behind follows parts ends. absurd (let none = follows.0 in omega arith)) (λ k same. some)
+past_stops m bytes some = Stops_here m (at_number 64) bytes (λ p t behind follows parts ends. absurd (let none = follows.0 in omega arith)) (λ k same. some)
 
 pub instances_stop : (m : Model) (n : ℕ) (bytes : List ℕ) (c : List Instance) (rest : List ℕ) → n ≡ 64 → HasInstances m n bytes c rest → rest ≢ [] → Stops m (at_number 0) bytes 66 2
 instances_stop m n bytes c rest full has some =
     let reads = subst (λ k. Reads m (at_number 0) bytes (at_number k) rest) full (instances_read m n bytes c rest has) in
-    Stops-then m (at_number 0) (at_number 64) bytes rest 66 2 reads (past_stops m rest some)
+    Stops_then m (at_number 0) (at_number 64) bytes rest 66 2 reads (past_stops m rest some)
 
 pub instances_all : (m : Model) (n : ℕ) (bytes : List ℕ) (c : List Instance) (rest : List ℕ) → 1 ≤ n → HasInstances m n bytes c rest → rest ≡ [] → AreInstances m bytes c
 instances_all m n bytes c rest some has ended =

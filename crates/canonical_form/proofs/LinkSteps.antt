@@ -11,7 +11,7 @@ use Rattle.canonical_form.specs.Pieces.{numbers_piece}
 use Rattle.canonical_form.specs.AnswerParts.{behind_number, behind_links, links_end}
 use Rattle.canonical_form.specs.BadLine.{ends_there}
 use Rattle.canonical_form.specs.Reading.{Takes, TakesNone, AddsLinks, ascends_from, begins_with_digit}
-use Rattle.canonical_form.proofs.Tokens.{token-unique, decimal_digits}
+use Rattle.canonical_form.proofs.Tokens.{token_unique, decimal_digits}
 
 comma_test : (b : ℕ) → (b == 44) ≡ true → b ≡ 44
 comma_test b same = grind (arith, nat_tests)
@@ -90,7 +90,7 @@ no_first low bytes none (j ∷ js) rest ascending takes =
 
 number_unique : (a b : ℕ) (bytes x y : List ℕ) → a < 2 ^ 64 → b < 2 ^ 64 → Takes (decimal a) behind_number bytes x → Takes (decimal b) behind_number bytes y → (decimal a ≡ decimal b) × (x ≡ y)
 number_unique a b bytes x y a_fits b_fits first second =
-    token-unique behind_number (decimal a) (decimal b) x y (decimal_digits a a_fits) (decimal_digits b b_fits) first.ends second.ends (sym first.parts ∙ second.parts)
+    token_unique behind_number (decimal a) (decimal b) x y (decimal_digits a a_fits) (decimal_digits b b_fits) first.ends second.ends (sym first.parts ∙ second.parts)
 
 later_ascends : (low j k : ℕ) (ks : List ℕ) → IsTrue (ascends_from low (j ∷ k ∷ ks)) → IsTrue (ascends_from (j + 1) (k ∷ ks))
 later_ascends low j k ks ascending = grind (arith)

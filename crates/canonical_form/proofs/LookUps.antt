@@ -4,7 +4,7 @@ use Rattle.std.specs.Prelude.{slice_get, nat_lt}
 use Rattle.std.specs.List.{list_any, position, position_or_len}
 use Rattle.std.proofs.lemmas.Bool.Decides.{nat_tests}
 use Rattle.prod_model.specs.Names.{same_text, is_distinct}
-use Rattle.prod_model.proofs.NameLaws.{same_text-symm}
+use Rattle.prod_model.proofs.NameLaws.{same_text_symm}
 
 -- a place of a list, and what stands there and passes
 pub record Hit {X : Type 0} (p : X → Bool) (xs : List X) (k : ℕ) : Type 0 where
@@ -35,8 +35,8 @@ past k n = ap (λ t. cond t (Some (1 + k)) None) (lt_past k n) ∙ by_test (nat_
     by_test true = ap Some one
     by_test false = refl
 
-position-cons : {X : Type 0} (p : X → Bool) (x : X) (xs : List X) → position p (x ∷ xs) ≡ cond (p x) (Some 0) (next_place (position p xs))
-position-cons p x xs = by_test (p x)
+position_cons : {X : Type 0} (p : X → Bool) (x : X) (xs : List X) → position p (x ∷ xs) ≡ cond (p x) (Some 0) (next_place (position p xs))
+position_cons p x xs = by_test (p x)
   where
     by_test : (b : Bool) → cond (nat_lt (cond (not b) (1 + position_or_len p xs) 0) (suc (length xs))) (Some (cond (not b) (1 + position_or_len p xs) 0)) None ≡ cond b (Some 0) (next_place (position p xs))
     by_test true = ap (λ t. cond t (Some 0) None) (lt_some (length xs))
@@ -65,9 +65,9 @@ hit_cases p x xs k true o is same later = hit_first p x xs k (some_is 0 k same) 
 hit_cases p x xs k false None is same later = absurd (cc)
 hit_cases p x xs k false (Some j) is same later = hit_later p x xs k j (some_is (suc j) k same) (later j refl)
 
-pub position-hit : {X : Type 0} (p : X → Bool) (xs : List X) (k : ℕ) → position p xs ≡ Some k → Hit p xs k
-position-hit p [] k found = absurd (cc)
-position-hit p (x ∷ xs) k found = hit_cases p x xs k (p x) (position p xs) refl (sym (position-cons p x xs) ∙ found) (position-hit p xs)
+pub position_hit : {X : Type 0} (p : X → Bool) (xs : List X) (k : ℕ) → position p xs ≡ Some k → Hit p xs k
+position_hit p [] k found = absurd (cc)
+position_hit p (x ∷ xs) k found = hit_cases p x xs k (p x) (position p xs) refl (sym (position_cons p x xs) ∙ found) (position_hit p xs)
 
 none_next : (o : Option ℕ) → next_place o ≡ None → o ≡ None
 none_next None same = refl
@@ -81,11 +81,11 @@ others_miss : (b : Bool) (o : Option ℕ) → cond b (Some 0) (next_place o) ≡
 others_miss true o same = absurd (cc)
 others_miss false o same = none_next o same
 
-pub position-miss : {X : Type 0} (p : X → Bool) (xs : List X) → position p xs ≡ None → (k : ℕ) (x : X) → slice_get xs k ≡ Some x → p x ≡ false
-position-miss p [] none k x at = absurd (cc)
-position-miss p (y ∷ ys) none zero x at =
-    ap p (sym (same_item y x at)) ∙ first_misses (p y) (position p ys) (sym (position-cons p y ys) ∙ none)
-position-miss p (y ∷ ys) none (suc k) x at = position-miss p ys (others_miss (p y) (position p ys) (sym (position-cons p y ys) ∙ none)) k x at
+pub position_miss : {X : Type 0} (p : X → Bool) (xs : List X) → position p xs ≡ None → (k : ℕ) (x : X) → slice_get xs k ≡ Some x → p x ≡ false
+position_miss p [] none k x at = absurd (cc)
+position_miss p (y ∷ ys) none zero x at =
+    ap p (sym (same_item y x at)) ∙ first_misses (p y) (position p ys) (sym (position_cons p y ys) ∙ none)
+position_miss p (y ∷ ys) none (suc k) x at = position_miss p ys (others_miss (p y) (position p ys) (sym (position_cons p y ys) ∙ none)) k x at
 
 -- ---- names that are put in one after another
 
@@ -106,5 +106,5 @@ distinct_before name_of (y ∷ ys) zero x distinct at = refl
 distinct_before name_of (y ∷ ys) (suc k) x distinct at =
     let rest = distinct_before name_of ys k x (grind (arith)) at in
     let there = named_at name_of ys k x (name_of y) at in
-    let swap = same_text-symm (name_of x) (name_of y) in
+    let swap = same_text_symm (name_of x) (name_of y) in
     grind (arith)

@@ -18,10 +18,10 @@ use Rattle.canonical_form.specs.BadLine.{ends_there}
 use Rattle.canonical_form.specs.Pieces.{is_written, is_written_value, attribute_piece, port_piece, numbers_piece}
 use Rattle.canonical_form.specs.Grammar.{at_members, Leads, BeginsThen, IsStuck, Reads, Stops}
 use Rattle.canonical_form.specs.Reading.{Takes, TakesNone}
-use Rattle.canonical_form.proofs.Paths.{BeginsThen-append, Stops-then, Stops-here}
-use Rattle.canonical_form.proofs.LinePieces.{attribute_piece-text}
+use Rattle.canonical_form.proofs.Paths.{BeginsThen_append, Stops_then, Stops_here}
+use Rattle.canonical_form.proofs.LinePieces.{attribute_piece_text}
 use Rattle.canonical_form.proofs.LookUps.{same_item}
-use Rattle.canonical_form.proofs.SpelledPaths.{length-map_what, length-pointwise}
+use Rattle.canonical_form.proofs.SpelledPaths.{length_map_what, length_pointwise}
 
 -- ---- lists that grow
 
@@ -82,31 +82,31 @@ pub values_more : (m : Model) (n : ℕ) (es : List (Named AttrAt)) (k : ℕ) (e 
 values_more m n es k e bytes values rest v after has at spelled takes =
     let front = take k es in
     let next = take_next es k e at in
-    let long : length values ≡ length front = length-pointwise (is_spelled_value m) (map (λ x. x.what) front) values has.spelled ∙ length-map_what front in
+    let long : length values ≡ length front = length_pointwise (is_spelled_value m) (map (λ x. x.what) front) values has.spelled ∙ length_map_what front in
     let one = one_part (attribute_part m (n + 2) (e, v)) rest after (record { parts = takes.parts; ends = takes.ends }) in
     let parts : map (attribute_part m (n + 2)) (zip (take (k + 1) es) (values ++ v ∷ [])) ≡ map (attribute_part m (n + 2)) (zip front values) ++ attribute_part m (n + 2) (e, v) ∷ [] =
     ap (λ xs. map (attribute_part m (n + 2)) (zip xs (values ++ v ∷ []))) next ∙ ap (map (attribute_part m (n + 2))) (zip_push front values e v long)
     ∙ map-append (attribute_part m (n + 2)) (zip front values) ((e, v) ∷ []) in
     let whats : map (λ x. x.what) (take (k + 1) es) ≡ map (λ x. x.what) front ++ e.what ∷ [] = ap (map (λ x. x.what)) next ∙ map-append (λ x. x.what) front (e ∷ []) in
     record {
-      begins = subst (λ ps. BeginsThen ps bytes after) (sym parts) (BeginsThen-append (map (attribute_part m (n + 2)) (zip front values)) (attribute_part m (n + 2) (e, v) ∷ []) bytes rest after has.begins one);
+      begins = subst (λ ps. BeginsThen ps bytes after) (sym parts) (BeginsThen_append (map (attribute_part m (n + 2)) (zip front values)) (attribute_part m (n + 2) (e, v) ∷ []) bytes rest after has.begins one);
       spelled = subst (λ xs. pointwise (is_spelled_value m) xs (values ++ v ∷ []) ≡ true) (sym whats) (passes_push (is_spelled_value m) (map (λ x. x.what) front) values e.what v has.spelled spelled);
     }
 
-front-leads : (m : Model) (n : ℕ) (front back : List (Named AttrAt)) (ps : List (Named PortAt)) (vs : List ℤ)
+front_leads : (m : Model) (n : ℕ) (front back : List (Named AttrAt)) (ps : List (Named PortAt)) (vs : List ℤ)
     → pointwise (is_spelled_value m) (map (λ a. a.what) front) vs ≡ true
     → Leads m (at_members n (front ++ back) ps) (map (attribute_part m (n + 2)) (zip front vs)) (at_members n back ps)
-front-leads m n [] back ps [] valued = refl
-front-leads m n [] back ps (v ∷ vs) valued = absurd (cc)
-front-leads m n (a ∷ front) back ps [] valued = absurd (cc)
-front-leads m n (a ∷ front) back ps (v ∷ vs) valued =
-    (at_members n (front ++ back) ps, (v, grind (arith), refl, refl), front-leads m n front back ps vs (grind (arith)))
+front_leads m n [] back ps [] valued = refl
+front_leads m n [] back ps (v ∷ vs) valued = absurd (cc)
+front_leads m n (a ∷ front) back ps [] valued = absurd (cc)
+front_leads m n (a ∷ front) back ps (v ∷ vs) valued =
+    (at_members n (front ++ back) ps, (v, grind (arith), refl, refl), front_leads m n front back ps vs (grind (arith)))
 
 pub values_read : (m : Model) (n : ℕ) (es : List (Named AttrAt)) (ps : List (Named PortAt)) (k : ℕ) (bytes : List ℕ) (values : List ℤ) (rest : List ℕ)
     → HasValues m n es k bytes values rest → Reads m (at_members n es ps) bytes (at_members n (drop k es) ps) rest
 values_read m n es ps k bytes values rest has = record {
   read = map (attribute_part m (n + 2)) (zip (take k es) values);
-  leads = subst (λ xs. Leads m (at_members n xs ps) (map (attribute_part m (n + 2)) (zip (take k es) values)) (at_members n (drop k es) ps)) (take_drop k es) (front-leads m n (take k es) (drop k es) ps values has.spelled);
+  leads = subst (λ xs. Leads m (at_members n xs ps) (map (attribute_part m (n + 2)) (zip (take k es) values)) (at_members n (drop k es) ps)) (take_drop k es) (front_leads m n (take k es) (drop k es) ps values has.spelled);
   begins = has.begins;
 }
 
@@ -124,8 +124,8 @@ pub values_stop : (m : Model) (n : ℕ) (es : List (Named AttrAt)) (ps : List (N
     → TakesNone (λ v. attribute_text m (e, v)) (λ v. value_end e.what) (is_spelled_value m e.what) rest → Stops m (at_members n es ps) bytes (n + 2) 4
 values_stop m n es ps k e bytes values rest has at none =
     let reads = subst (λ xs. Reads m (at_members n es ps) bytes (at_members n xs ps) rest) (drop_next es k e at) (values_read m n es ps k bytes values rest has) in
-    Stops-then m (at_members n es ps) (at_members n (e ∷ drop (suc k) es) ps) bytes rest (n + 2) 4 reads
-    (Stops-here m (at_members n (e ∷ drop (suc k) es) ps) rest (attribute_stuck m n e (drop (suc k) es) ps rest none) (λ j same. absurd (cc)))
+    Stops_then m (at_members n es ps) (at_members n (e ∷ drop (suc k) es) ps) bytes rest (n + 2) 4 reads
+    (Stops_here m (at_members n (e ∷ drop (suc k) es) ps) rest (attribute_stuck m n e (drop (suc k) es) ps rest none) (λ j same. absurd (cc)))
 
 -- ---- an attribute and its first declaration
 
@@ -159,7 +159,7 @@ entry_at read m (q ∷ firsts) (e ∷ es) (suc k) r a names words at_r at_a =
 -- what is read by the first declaration is an attribute and its value
 pub entry_takes : (m : Model) (d : AttrDecl) (e : Named AttrAt) (v : ℤ) (bytes rest : List ℕ) → d.name ≡ e.name → words_of d.domain ≡ first_words m e.what.id
     → Takes (attribute_piece (d, (e.what, v))) (value_end e.what) bytes rest → Takes (attribute_text m (e, v)) (value_end e.what) bytes rest
-entry_takes m d e v bytes rest name words takes = record { parts = takes.parts ∙ ap (λ t. t ++ rest) (attribute_piece-text m d e v name words); ends = takes.ends }
+entry_takes m d e v bytes rest name words takes = record { parts = takes.parts ∙ ap (λ t. t ++ rest) (attribute_piece_text m d e v name words); ends = takes.ends }
 
 pub entry_written : (m : Model) (d : AttrDecl) (a : AttrAt) (v : ℤ) → words_of d.domain ≡ first_words m a.id → is_written (d, (a, v)) ≡ is_spelled_value m a v
 entry_written m d a v words = ap (λ ws. is_written_value (length ws) a.domain v) words
@@ -168,7 +168,7 @@ pub entry_takes_none : (m : Model) (d : AttrDecl) (e : Named AttrAt) (bytes : Li
     → TakesNone (λ v. attribute_piece (d, (e.what, v))) (λ v. value_end e.what) (λ v. is_written (d, (e.what, v))) bytes
     → TakesNone (λ v. attribute_text m (e, v)) (λ v. value_end e.what) (is_spelled_value m e.what) bytes
 entry_takes_none m d e bytes name words none v rest spelled takes =
-    none v rest (entry_written m d e.what v words ∙ spelled) (record { parts = takes.parts ∙ ap (λ t. t ++ rest) (sym (attribute_piece-text m d e v name words)); ends = takes.ends })
+    none v rest (entry_written m d e.what v words ∙ spelled) (record { parts = takes.parts ∙ ap (λ t. t ++ rest) (sym (attribute_piece_text m d e v name words)); ends = takes.ends })
 
 -- ---- ports
 
@@ -196,24 +196,24 @@ links_more n qs k q bytes links rest js after has at spelled takes =
     let pushed_ports = length-append front (q ∷ []) in
     let taken = ap length next in
     record {
-      begins = subst (λ ps. BeginsThen ps bytes after) (sym parts) (BeginsThen-append (map (port_part (n + 2)) (zip front links)) (port_part (n + 2) (q, js) ∷ []) bytes rest after has.begins one);
+      begins = subst (λ ps. BeginsThen ps bytes after) (sym parts) (BeginsThen_append (map (port_part (n + 2)) (zip front links)) (port_part (n + 2) (q, js) ∷ []) bytes rest after has.begins one);
       long = omega arith;
       spelled = all_push is_spelled_links links js has.spelled spelled;
     }
 
-front_ports-lead : (m : Model) (n : ℕ) (front back : List (Named PortAt)) (ls : List (List ℕ)) → length ls ≡ length front → list_all is_spelled_links ls ≡ true
+front_ports_lead : (m : Model) (n : ℕ) (front back : List (Named PortAt)) (ls : List (List ℕ)) → length ls ≡ length front → list_all is_spelled_links ls ≡ true
     → Leads m (at_members n [] (front ++ back)) (map (port_part (n + 2)) (zip front ls)) (at_members n [] back)
-front_ports-lead m n [] back [] long linked = refl
-front_ports-lead m n [] back (l ∷ ls) long linked = absurd (omega arith)
-front_ports-lead m n (p ∷ front) back [] long linked = absurd (omega arith)
-front_ports-lead m n (p ∷ front) back (l ∷ ls) long linked =
-    (at_members n [] (front ++ back), (l, grind (arith), refl, refl), front_ports-lead m n front back ls (omega arith) (grind (arith)))
+front_ports_lead m n [] back [] long linked = refl
+front_ports_lead m n [] back (l ∷ ls) long linked = absurd (omega arith)
+front_ports_lead m n (p ∷ front) back [] long linked = absurd (omega arith)
+front_ports_lead m n (p ∷ front) back (l ∷ ls) long linked =
+    (at_members n [] (front ++ back), (l, grind (arith), refl, refl), front_ports_lead m n front back ls (omega arith) (grind (arith)))
 
 links_read : (m : Model) (n : ℕ) (qs : List (Named PortAt)) (k : ℕ) (bytes : List ℕ) (links : List (List ℕ)) (rest : List ℕ)
     → HasLinks n qs k bytes links rest → Reads m (at_members n [] qs) bytes (at_members n [] (drop k qs)) rest
 links_read m n qs k bytes links rest has = record {
   read = map (port_part (n + 2)) (zip (take k qs) links);
-  leads = subst (λ xs. Leads m (at_members n [] xs) (map (port_part (n + 2)) (zip (take k qs) links)) (at_members n [] (drop k qs))) (take_drop k qs) (front_ports-lead m n (take k qs) (drop k qs) links has.long has.spelled);
+  leads = subst (λ xs. Leads m (at_members n [] xs) (map (port_part (n + 2)) (zip (take k qs) links)) (at_members n [] (drop k qs))) (take_drop k qs) (front_ports_lead m n (take k qs) (drop k qs) links has.long has.spelled);
   begins = has.begins;
 }
 
@@ -230,8 +230,8 @@ pub links_stop : (m : Model) (n : ℕ) (qs : List (Named PortAt)) (k : ℕ) (q :
     → HasLinks n qs k bytes links rest → slice_get qs k ≡ Some q → TakesNone (λ js. port_text (q, js)) links_end is_spelled_links rest → Stops m (at_members n [] qs) bytes (n + 2) 5
 links_stop m n qs k q bytes links rest has at none =
     let reads = subst (λ xs. Reads m (at_members n [] qs) bytes (at_members n [] xs) rest) (drop_next qs k q at) (links_read m n qs k bytes links rest has) in
-    Stops-then m (at_members n [] qs) (at_members n [] (q ∷ drop (suc k) qs)) bytes rest (n + 2) 5 reads
-    (Stops-here m (at_members n [] (q ∷ drop (suc k) qs)) rest (port_stuck m n q (drop (suc k) qs) rest none) (λ j same. absurd (cc)))
+    Stops_then m (at_members n [] qs) (at_members n [] (q ∷ drop (suc k) qs)) bytes rest (n + 2) 5 reads
+    (Stops_here m (at_members n [] (q ∷ drop (suc k) qs)) rest (port_stuck m n q (drop (suc k) qs) rest none) (λ j same. absurd (cc)))
 
 -- ---- a port and its first declaration
 
@@ -251,17 +251,17 @@ port_at {R = R} read (x ∷ firsts) (q ∷ qs) zero r names at_r =
 port_at read (x ∷ firsts) (q ∷ qs) (suc k) r names at_r =
     let more = port_at read firsts qs k r (cc) at_r in record { port = more.port; at = more.at; name = more.name }
 
-port_piece-text : (d : PortDecl) (q : Named PortAt) (js : List ℕ) → d.name ≡ q.name → port_piece (d, js) ≡ port_text (q, js)
+port_piece_text : (d : PortDecl) (q : Named PortAt) (js : List ℕ) → d.name ≡ q.name → port_piece (d, js) ≡ port_text (q, js)
 unfolding port_piece
-port_piece-text d q js name = ap (λ n. codes " " ++ n ++ codes ":" ++ numbers_piece js) name
+port_piece_text d q js name = ap (λ n. codes " " ++ n ++ codes ":" ++ numbers_piece js) name
 
 pub port_takes : (d : PortDecl) (q : Named PortAt) (js bytes rest : List ℕ) → d.name ≡ q.name → Takes (port_piece (d, js)) (links_end js) bytes rest → Takes (port_text (q, js)) (links_end js) bytes rest
-port_takes d q js bytes rest name takes = record { parts = takes.parts ∙ ap (λ t. t ++ rest) (port_piece-text d q js name); ends = takes.ends }
+port_takes d q js bytes rest name takes = record { parts = takes.parts ∙ ap (λ t. t ++ rest) (port_piece_text d q js name); ends = takes.ends }
 
 pub port_takes_none : (d : PortDecl) (q : Named PortAt) (bytes : List ℕ) → d.name ≡ q.name → TakesNone (λ js. port_piece (d, js)) links_end is_spelled_links bytes
     → TakesNone (λ js. port_text (q, js)) links_end is_spelled_links bytes
 port_takes_none d q bytes name none js rest spelled takes =
-    none js rest spelled (record { parts = takes.parts ∙ ap (λ t. t ++ rest) (sym (port_piece-text d q js name)); ends = takes.ends })
+    none js rest spelled (record { parts = takes.parts ∙ ap (λ t. t ++ rest) (sym (port_piece_text d q js name)); ends = takes.ends })
 
 -- ---- all of them
 
@@ -285,7 +285,7 @@ next_entry read m m' t firsts attrs k r a same names words is within at_r at_a =
     let names' = subst (λ (x : Model). map (λ d. (read d).name) firsts ≡ map (λ e. e.name) (attributes_of x.types t)) same names in
     let words' = subst (λ (x : Model). map (λ d. words_of (read d).domain) firsts ≡ map (λ b. first_words x b.id) (attributes_at x t)) same words in
     let many : length firsts ≡ length (attributes_of m.types t) = sym (length-map firsts (λ d. (read d).name)) ∙ ap length names' ∙ length-map (attributes_of m.types t) (λ e. e.name) in
-    let long : length attrs ≡ length (attributes_of m.types t) = ap length is ∙ length-map_what (attributes_of m.types t) in
+    let long : length attrs ≡ length (attributes_of m.types t) = ap length is ∙ length_map_what (attributes_of m.types t) in
     let item = subst (λ xs. slice_get xs k ≡ Some a) is (slice_get_read attrs (length attrs) k a refl within at_a) in
     entry_at read m firsts (attributes_of m.types t) k r a names' words' (slice_get_read firsts (length firsts) k r refl (omega arith) at_r) item
 

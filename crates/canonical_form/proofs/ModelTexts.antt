@@ -19,7 +19,7 @@ use Rattle.prod_model.specs.Forest.{is_leaf}
 use Rattle.prod_model.specs.Taxonomy.{words_of, declarations_of, new_declarations, all_new_declarations, first_words}
 use Rattle.prod_model.specs.Valid.{IsValid, has_formed_names, has_distinct_names, has_short_lists, has_few_words}
 use Rattle.canonical_form.specs.AnswerText.{type_name, word_at}
-use Rattle.prod_model.proofs.NameLaws.{same_text-refl}
+use Rattle.prod_model.proofs.NameLaws.{same_text_refl}
 
 pub leaf_is_type : (m : Model) (t : ℕ) → IsTrue (is_leaf m t) → t < length m.types
 unfolding is_leaf
@@ -60,7 +60,7 @@ type_bytes m t valid = type_name_bytes m.types _ t (formed_types m valid)
 name_among : (types : List TypeDecl) (t : ℕ) → t < length types
     → list_any (same_text (option_map_or (λ d. d.name) (slice_get types t) [])) (map (λ d. d.name) types) ≡ true
 name_among [] t within = absurd (omega arith)
-name_among (d ∷ types) zero within = let here = same_text-refl d.name in grind (arith)
+name_among (d ∷ types) zero within = let here = same_text_refl d.name in grind (arith)
 name_among (d ∷ types) (suc t) within = let rest = name_among types t (omega arith) in grind (arith)
 
 one_of_name : (types : List TypeDecl) (t u : ℕ) → is_distinct (map (λ d. d.name) types) ≡ true → t < length types → u < length types
@@ -83,13 +83,13 @@ type_of_name m t u valid t_in u_in same = one_of_name m.types t u (type_names_di
 
 -- ---- words
 
-list_all-filter : {X : Type 0} (p q : X → Bool) (xs : List X) → list_all p xs ≡ true → list_all p (filter q xs) ≡ true
-list_all-filter p q [] all = refl
-list_all-filter p q (x ∷ xs) all = let rest = list_all-filter p q xs (grind (arith)) in grind (arith)
+list_all_filter : {X : Type 0} (p q : X → Bool) (xs : List X) → list_all p xs ≡ true → list_all p (filter q xs) ≡ true
+list_all_filter p q [] all = refl
+list_all_filter p q (x ∷ xs) all = let rest = list_all_filter p q xs (grind (arith)) in grind (arith)
 
-list_all-flat_map : {X Y : Type 0} (p : Y → Bool) (f : X → List Y) → ((x : X) → list_all p (f x) ≡ true) → (xs : List X) → list_all p (flat_map f xs) ≡ true
-list_all-flat_map p f each [] = refl
-list_all-flat_map p f each (x ∷ xs) = let here = each x in let rest = list_all-flat_map p f each xs in let both = list_all-append p (f x) (flat_map f xs) in grind (arith)
+list_all_flat_map : {X Y : Type 0} (p : Y → Bool) (f : X → List Y) → ((x : X) → list_all p (f x) ≡ true) → (xs : List X) → list_all p (flat_map f xs) ≡ true
+list_all_flat_map p f each [] = refl
+list_all_flat_map p f each (x ∷ xs) = let here = each x in let rest = list_all_flat_map p f each xs in let both = list_all-append p (f x) (flat_map f xs) in grind (arith)
 
 abbrev has_words : AttrDecl → Bool
 has_words a = list_all is_word (words_of a.domain)
@@ -107,8 +107,8 @@ declared_worded (d ∷ types) p q r (suc t) all = declared_worded types p q r t 
 
 all_worded : (m : Model) → IsValid m → list_all has_words (all_new_declarations (λ d. d.attributes) (λ d. d.name) m.types) ≡ true
 all_worded m valid =
-    list_all-flat_map has_words (new_declarations (λ d. d.attributes) (λ d. d.name) m.types)
-    (λ t. list_all-filter has_words _ (declarations_of (λ d. d.attributes) (λ d. d.name) m.types t) (declared_worded m.types _ _ _ t (formed_types m valid))) _
+    list_all_flat_map has_words (new_declarations (λ d. d.attributes) (λ d. d.name) m.types)
+    (λ t. list_all_filter has_words _ (declarations_of (λ d. d.attributes) (λ d. d.name) m.types t) (declared_worded m.types _ _ _ t (formed_types m valid))) _
 
 words_at : (ds : List AttrDecl) (id : ℕ) → list_all has_words ds ≡ true → list_all is_word (option_map_or (λ d. words_of d.domain) (slice_get ds id) []) ≡ true
 words_at [] id all = refl
@@ -152,8 +152,8 @@ few_types_words m valid =
 
 pub all_few : (m : Model) → IsValid m → list_all (λ a. has_few_words a.domain) (all_new_declarations (λ d. d.attributes) (λ d. d.name) m.types) ≡ true
 all_few m valid =
-    list_all-flat_map (λ a. has_few_words a.domain) (new_declarations (λ d. d.attributes) (λ d. d.name) m.types)
-    (λ t. list_all-filter (λ a. has_few_words a.domain) _ (declarations_of (λ d. d.attributes) (λ d. d.name) m.types t) (attributes_few m.types t (few_types_words m valid))) _
+    list_all_flat_map (λ a. has_few_words a.domain) (new_declarations (λ d. d.attributes) (λ d. d.name) m.types)
+    (λ t. list_all_filter (λ a. has_few_words a.domain) _ (declarations_of (λ d. d.attributes) (λ d. d.name) m.types t) (attributes_few m.types t (few_types_words m valid))) _
 
 domain_few : (domain : Domain) → has_few_words domain ≡ true → length (words_of domain) ≤ 64
 domain_few (Range low high) few = omega arith

@@ -24,7 +24,7 @@ use Rattle.canonical_form.specs.AnswerText.{word_at, value_text, type_name}
 use Rattle.canonical_form.specs.AnswerParts.{Part, belongs, behind_number, behind_name, behind_word, behind_links, value_end, links_end, attribute_part, port_part}
 use Rattle.canonical_form.specs.BadLine.{ends_there}
 use Rattle.canonical_form.specs.Grammar.{State, at_header, at_header_end, at_number, at_type, at_members, Follows, type_part}
-use Rattle.canonical_form.proofs.Tokens.{token-unique, decimal_digits, decimal-cons}
+use Rattle.canonical_form.proofs.Tokens.{token_unique, decimal_digits, decimal_cons}
 use Rattle.canonical_form.proofs.ModelTexts.{leaf_is_type, type_bytes, type_of_name, word_at_bytes}
 use Rattle.canonical_form.specs.Reading.{end_of_domain}
 
@@ -35,15 +35,15 @@ same_types m n t u valid t_leaf u_leaf same =
     let text : codes " " ++ type_name m t ≡ codes " " ++ type_name m u = ap (λ (p : Part). p.text) same in
     type_of_name m t u valid (leaf_is_type m t t_leaf) (leaf_is_type m u u_leaf) (append_cancel_left (codes " ") _ _ text)
 
-pub Follows-state : (m : Model) (s : State) (p : Part) (t u : State) → IsValid m → Follows m s p t → Follows m s p u → t ≡ u
-Follows-state m at_header p t u valid first second = first.1 ∙ sym second.1
-Follows-state m at_header_end p t u valid first second = first.1 ∙ sym second.1
-Follows-state m (at_number n) p t u valid first second = first.2 ∙ sym second.2
-Follows-state m (at_type n) p t u valid first second =
+pub Follows_state : (m : Model) (s : State) (p : Part) (t u : State) → IsValid m → Follows m s p t → Follows m s p u → t ≡ u
+Follows_state m at_header p t u valid first second = first.1 ∙ sym second.1
+Follows_state m at_header_end p t u valid first second = first.1 ∙ sym second.1
+Follows_state m (at_number n) p t u valid first second = first.2 ∙ sym second.2
+Follows_state m (at_type n) p t u valid first second =
     first.3 ∙ ap (λ k. at_members n (attributes_of m.types k) (ports_of m.types k)) (same_types m n first.0 second.0 valid first.1 second.1 (sym first.2 ∙ second.2)) ∙ sym second.3
-Follows-state m (at_members n (a ∷ as') ps) p t u valid first second = first.3 ∙ sym second.3
-Follows-state m (at_members n [] (q ∷ ps)) p t u valid first second = first.3 ∙ sym second.3
-Follows-state m (at_members n [] []) p t u valid first second = first.1 ∙ sym second.1
+Follows_state m (at_members n (a ∷ as') ps) p t u valid first second = first.3 ∙ sym second.3
+Follows_state m (at_members n [] (q ∷ ps)) p t u valid first second = first.3 ∙ sym second.3
+Follows_state m (at_members n [] []) p t u valid first second = first.1 ∙ sym second.1
 
 -- ---- values
 
@@ -56,7 +56,7 @@ within_negsuc n within = grind (arith, nat_tests, ints)
 -- a digit is no sign
 pub sign_apart : (n : ℕ) (x ys : List ℕ) → n < 2 ^ 64 → decimal n ++ x ≡ 45 ∷ ys → ⊥
 sign_apart n x ys fits same =
-    let d = decimal-cons n fits in
+    let d = decimal_cons n fits in
     let head : d.0 ∷ (d.1 ++ x) ≡ 45 ∷ ys = sym (ap (λ t. t ++ x) d.2) ∙ same in
     let sign : d.0 ≡ 45 = cc in
     let digit : is_digit 45 ≡ true = subst (λ b. is_digit b ≡ true) sign d.3 in
@@ -65,11 +65,11 @@ sign_apart n x ys fits same =
 signed_unique : (v w : ℤ) (x y : List ℕ) → is_within Limits.farthest_end v ≡ true → is_within Limits.farthest_end w ≡ true
     → IsTrue (ends_there behind_number x) → IsTrue (ends_there behind_number y) → signed_decimal v ++ x ≡ signed_decimal w ++ y → signed_decimal v ≡ signed_decimal w
 signed_unique (pos n) (pos k) x y v_in w_in ends_x ends_y same =
-    (token-unique behind_number (decimal n) (decimal k) x y (decimal_digits n (within_pos n v_in)) (decimal_digits k (within_pos k w_in)) ends_x ends_y same).0
+    (token_unique behind_number (decimal n) (decimal k) x y (decimal_digits n (within_pos n v_in)) (decimal_digits k (within_pos k w_in)) ends_x ends_y same).0
 signed_unique (pos n) (negsuc k) x y v_in w_in ends_x ends_y same = absurd (sign_apart n x (decimal (suc k) ++ y) (within_pos n v_in) same)
 signed_unique (negsuc n) (pos k) x y v_in w_in ends_x ends_y same = absurd (sign_apart k y (decimal (suc n) ++ x) (within_pos k w_in) (sym same))
 signed_unique (negsuc n) (negsuc k) x y v_in w_in ends_x ends_y same =
-    let digits = token-unique behind_number (decimal (suc n)) (decimal (suc k)) x y (decimal_digits (suc n) (within_negsuc n v_in)) (decimal_digits (suc k) (within_negsuc k w_in)) ends_x ends_y (cc) in
+    let digits = token_unique behind_number (decimal (suc n)) (decimal (suc k)) x y (decimal_digits (suc n) (within_negsuc n v_in)) (decimal_digits (suc k) (within_negsuc k w_in)) ends_x ends_y (cc) in
     ap (λ ds. 45 ∷ ds) digits.0
 
 abbrev value_of_domain : Model → AttrAt → Domain → ℤ → List ℕ
@@ -84,7 +84,7 @@ value_unique : (m : Model) (a : AttrAt) (domain : Domain) (v w : ℤ) (x y : Lis
     → value_of_domain m a domain v ++ x ≡ value_of_domain m a domain w ++ y → value_of_domain m a domain v ≡ value_of_domain m a domain w
 value_unique m a (Range low high) v w x y valid v_in w_in ends_x ends_y same = signed_unique v w x y v_in w_in ends_x ends_y same
 value_unique m a (Words words) v w x y valid v_in w_in ends_x ends_y same =
-    (token-unique behind_word (word_at m a v) (word_at m a w) x y (word_at_bytes m a v valid) (word_at_bytes m a w valid) ends_x ends_y same).0
+    (token_unique behind_word (word_at m a v) (word_at m a w) x y (word_at_bytes m a v valid) (word_at_bytes m a w valid) ends_x ends_y same).0
 
 -- ---- links
 
@@ -108,9 +108,9 @@ links_bytes (j ∷ k ∷ ks) all =
     grind (arith)
 
 links_head : (j : ℕ) (js : List ℕ) → nat_lt j Limits.most_instances ≡ true → (d : ℕ) × (ds : List ℕ) × (links_text (j ∷ js) ≡ d ∷ ds) × (is_digit d ≡ true)
-links_head j [] few = decimal-cons j (few_fits j few)
+links_head j [] few = decimal_cons j (few_fits j few)
 links_head j (k ∷ ks) few =
-    let d = decimal-cons j (few_fits j few) in
+    let d = decimal_cons j (few_fits j few) in
     (d.0, d.1 ++ (44 ∷ links_text (k ∷ ks)), ap (λ t. t ++ (44 ∷ links_text (k ∷ ks))) d.2, d.3)
 
 no_link : (j : ℕ) (js x y : List ℕ) → nat_lt j Limits.most_instances ≡ true → IsTrue (ends_there behind_number x) → x ≡ links_text (j ∷ js) ++ y → ⊥
@@ -130,7 +130,7 @@ links_unique n q [] [] x y js_in ks_in ends_x ends_y same = refl
 links_unique n q [] (k ∷ ks) x y js_in ks_in ends_x ends_y same = let few = all_few (k ∷ ks) ks_in in absurd (no_link k ks x y (grind (arith)) ends_x same)
 links_unique n q (j ∷ js) [] x y js_in ks_in ends_x ends_y same = let few = all_few (j ∷ js) js_in in absurd (no_link j js y x (grind (arith)) ends_y (sym same))
 links_unique n q (j ∷ js) (k ∷ ks) x y js_in ks_in ends_x ends_y same =
-    let text = (token-unique behind_links (links_text (j ∷ js)) (links_text (k ∷ ks)) x y (links_bytes (j ∷ js) (all_few (j ∷ js) js_in)) (links_bytes (k ∷ ks) (all_few (k ∷ ks) ks_in)) ends_x ends_y same).0 in
+    let text = (token_unique behind_links (links_text (j ∷ js)) (links_text (k ∷ ks)) x y (links_bytes (j ∷ js) (all_few (j ∷ js) js_in)) (links_bytes (k ∷ ks) (all_few (k ∷ ks) ks_in)) ends_x ends_y same).0 in
     ap (λ t. record { line = n + 2; code = 5; text = codes " " ++ q.name ++ codes ":" ++ t; end = behind_links }) text
 
 -- ---- one part
@@ -147,7 +147,7 @@ begins_same p q bytes same begins = subst (λ r. Begins r bytes) same begins
 type_unique : (m : Model) (n t u : ℕ) (bytes : List ℕ) → IsValid m → Begins (type_part m n t) bytes → Begins (type_part m n u) bytes → type_part m n t ≡ type_part m n u
 type_unique m n t u bytes valid first second =
     let same : codes " " ++ (type_name m t ++ first.behind) ≡ codes " " ++ (type_name m u ++ second.behind) = sym first.text ∙ second.text in
-    let names = token-unique behind_name (type_name m t) (type_name m u) first.behind second.behind (type_bytes m t valid) (type_bytes m u valid) first.ends second.ends (append_cancel_left (codes " ") _ _ same) in
+    let names = token_unique behind_name (type_name m t) (type_name m u) first.behind second.behind (type_bytes m t valid) (type_bytes m u valid) first.ends second.ends (append_cancel_left (codes " ") _ _ same) in
     ap (λ name. record { line = n + 2; code = 3; text = codes " " ++ name; end = behind_name }) names.0
 
 attribute_unique : (m : Model) (n : ℕ) (a : Named AttrAt) (v w : ℤ) (bytes : List ℕ) → IsValid m → IsTrue (is_spelled_value m a.what v) → IsTrue (is_spelled_value m a.what w)
@@ -167,14 +167,14 @@ port_unique n q js ks bytes js_in ks_in first second =
     sym (append_assoc front (links_text js) first.behind) ∙ sym first.text ∙ second.text ∙ append_assoc front (links_text ks) second.behind in
     links_unique n q js ks first.behind second.behind js_in ks_in first.ends second.ends (append_cancel_left front _ _ same)
 
-pub Follows-part : (m : Model) (s : State) (p q : Part) (t u : State) (bytes : List ℕ) → IsValid m → Follows m s p t → Follows m s q u → Begins p bytes → Begins q bytes → p ≡ q
-Follows-part m at_header p q t u bytes valid first second p_begins q_begins = first.0 ∙ sym second.0
-Follows-part m at_header_end p q t u bytes valid first second p_begins q_begins = first.0 ∙ sym second.0
-Follows-part m (at_number n) p q t u bytes valid first second p_begins q_begins = first.1 ∙ sym second.1
-Follows-part m (at_type n) p q t u bytes valid first second p_begins q_begins =
+pub Follows_part : (m : Model) (s : State) (p q : Part) (t u : State) (bytes : List ℕ) → IsValid m → Follows m s p t → Follows m s q u → Begins p bytes → Begins q bytes → p ≡ q
+Follows_part m at_header p q t u bytes valid first second p_begins q_begins = first.0 ∙ sym second.0
+Follows_part m at_header_end p q t u bytes valid first second p_begins q_begins = first.0 ∙ sym second.0
+Follows_part m (at_number n) p q t u bytes valid first second p_begins q_begins = first.1 ∙ sym second.1
+Follows_part m (at_type n) p q t u bytes valid first second p_begins q_begins =
     first.2 ∙ type_unique m n first.0 second.0 bytes valid (begins_same p _ bytes first.2 p_begins) (begins_same q _ bytes second.2 q_begins) ∙ sym second.2
-Follows-part m (at_members n (a ∷ as') ps) p q t u bytes valid first second p_begins q_begins =
+Follows_part m (at_members n (a ∷ as') ps) p q t u bytes valid first second p_begins q_begins =
     first.2 ∙ attribute_unique m n a first.0 second.0 bytes valid first.1 second.1 (begins_same p _ bytes first.2 p_begins) (begins_same q _ bytes second.2 q_begins) ∙ sym second.2
-Follows-part m (at_members n [] (o ∷ ps)) p q t u bytes valid first second p_begins q_begins =
+Follows_part m (at_members n [] (o ∷ ps)) p q t u bytes valid first second p_begins q_begins =
     first.2 ∙ port_unique n o first.0 second.0 bytes first.1 second.1 (begins_same p _ bytes first.2 p_begins) (begins_same q _ bytes second.2 q_begins) ∙ sym second.2
-Follows-part m (at_members n [] []) p q t u bytes valid first second p_begins q_begins = first.0 ∙ sym second.0
+Follows_part m (at_members n [] []) p q t u bytes valid first second p_begins q_begins = first.0 ∙ sym second.0

@@ -21,9 +21,9 @@ use Rattle.prod_model.specs.Limits.{is_within}
 use Rattle.canonical_form.specs.AnswerParts.{End, belongs, behind_number}
 use Rattle.canonical_form.specs.BadLine.{ends_there}
 use Rattle.canonical_form.specs.Reading.{Takes, IsToken, without_sign, is_link_from}
-use Rattle.canonical_form.proofs.Tokens.{token-unique, decimal_digits}
+use Rattle.canonical_form.proofs.Tokens.{token_unique, decimal_digits}
 use Rattle.canonical_form.proofs.OneNext.{within_pos, within_negsuc, sign_apart}
-use Rattle.prod_model.proofs.NameLaws.{same_text-refl}
+use Rattle.prod_model.proofs.NameLaws.{same_text_refl}
 
 pub stripped_found : (s p : List ℕ) (r : Option (Bor (List ℕ))) → MatchOption r ((rest : List ℕ) → s ≢ p ++ rest) (λ x. s ≡ p ++ x.now) → IfSome r (λ x. s ≡ p ++ x.now)
 stripped_found s p None cases = tt
@@ -39,7 +39,7 @@ stripped_none s p (Some x) cases none = absurd (cc)
 pub token_is : (end : End) (bytes front rest text behind : List ℕ) → IsToken end bytes front rest → list_all (belongs end) text ≡ true → Takes text end bytes behind
     → (front ≡ text) × (rest ≡ behind)
 token_is end bytes front rest text behind token all takes =
-    token-unique end front text rest behind token.belonging all token.takes.ends takes.ends (sym token.takes.parts ∙ takes.parts)
+    token_unique end front text rest behind token.belonging all token.takes.ends takes.ends (sym token.takes.parts ∙ takes.parts)
 
 pub number_is : (n : ℕ) (bytes front rest behind : List ℕ) → n < 2 ^ 64 → IsToken behind_number bytes front rest → Takes (decimal n) behind_number bytes behind
     → (front ≡ decimal n) × (rest ≡ behind)
@@ -132,7 +132,7 @@ signed_parses v text r within same parses = parse-signed_decimal w64 v text r (w
 pub another_text : (v : ℤ) (text : List ℕ) → text ≡ signed_decimal v → same_text (signed_decimal v) text ≡ false → ⊥
 another_text v text same other =
     let e : same_text (signed_decimal v) (signed_decimal v) ≡ false = subst (λ t. same_text (signed_decimal v) t ≡ false) same other in
-    false≢true (sym e ∙ same_text-refl (signed_decimal v))
+    false≢true (sym e ∙ same_text_refl (signed_decimal v))
 
 pub link_within : (low j : ℕ) → j < 64 → is_within Limits.farthest_end (pos j) ≡ true
 link_within low j few = grind (arith, nat_tests, ints)

@@ -13,7 +13,7 @@ use Rattle.config_value.specs.declared.configuration.Instance.{Instance}
 use Rattle.config_value.specs.Spelled.{is_spelled_value, is_spelled_links}
 use Rattle.canonical_form.specs.AnswerParts.{Part, attribute_part, port_part, end_part, header_part, instance_parts, parts_of}
 use Rattle.canonical_form.specs.Grammar.{State, at_header, at_header_end, at_number, at_type, at_members, Leads, number_part, type_part, is_spelled_instance}
-use Rattle.canonical_form.proofs.SpelledPaths.{HasSpelledInstances, length-map_what, length-pointwise}
+use Rattle.canonical_form.proofs.SpelledPaths.{HasSpelledInstances, length_map_what, length_pointwise}
 
 abbrev pub lines_from : Model → ℕ → List Instance → List Part
 lines_from m n c = flat_map (instance_parts m) (enumerate_from n c)
@@ -105,8 +105,8 @@ rebuilt_type m k n t p ps leaf is line = record { kind = t; others = ps; leaf = 
 pub spelled_instance : (m : Model) (x : Instance) → IsTrue (is_leaf m x.kind) → pointwise (is_spelled_value m) (attributes_at m x.kind) x.values ≡ true
     → length x.links ≡ length (ports_of m.types x.kind) → list_all is_spelled_links x.links ≡ true → is_spelled_instance m x ≡ true
 spelled_instance m x leaf valued long linked =
-    let values = length-pointwise (is_spelled_value m) (attributes_at m x.kind) x.values valued in
-    let ports = length-map_what (ports_of m.types x.kind) in
+    let values = length_pointwise (is_spelled_value m) (attributes_at m x.kind) x.values valued in
+    let ports = length_map_what (ports_of m.types x.kind) in
     grind (arith, nat_tests)
 
 line_parts : (m : Model) (n : ℕ) (x : Instance) (others : List Part)

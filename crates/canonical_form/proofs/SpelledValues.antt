@@ -23,10 +23,10 @@ use Rattle.prod_model.specs.Taxonomy.{Named, declarations_of, new_declarations, 
 use Rattle.prod_model.specs.Valid.{IsValid, has_narrowings, attribute_narrows, port_narrows, narrows_domain, inherited, has_few_words}
 use Rattle.config_value.specs.Spelled.{is_spelled_value, is_word_place}
 use Rattle.canonical_form.specs.FirstDeclared.{with_new, first_declarations}
-use Rattle.prod_model.proofs.ListLaws.{list_all-at, list_all-from, list_any-map}
-use Rattle.prod_model.proofs.NameLaws.{same_text-refl}
-use Rattle.prod_model.proofs.ForestLines.{no_cycle, line-stays, IsLine, line-IsLine, line_within-types}
-use Rattle.canonical_form.proofs.Places.{places-of_type}
+use Rattle.prod_model.proofs.ListLaws.{list_all_at_place, list_all_from_each, list_any_map}
+use Rattle.prod_model.proofs.NameLaws.{same_text_refl}
+use Rattle.prod_model.proofs.ForestLines.{no_cycle, line_stays, IsLine, line_IsLine, line_within_types}
+use Rattle.canonical_form.proofs.Places.{places_of_type}
 use Rattle.canonical_form.proofs.TypeNames.{attribute_names}
 use Rattle.canonical_form.proofs.LookUps.{same_item, named_at}
 use Rattle.canonical_form.proofs.ModelTexts.{all_few}
@@ -45,17 +45,17 @@ same_form (Range low high) (Words words) = false
 same_form (Words words) (Range low high) = false
 same_form (Words words) (Words words') = true
 
-form-refl : (a : Domain) → same_form a a ≡ true
-form-refl (Range low high) = refl
-form-refl (Words words) = refl
+form_refl : (a : Domain) → same_form a a ≡ true
+form_refl (Range low high) = refl
+form_refl (Words words) = refl
 
-form-narrows : (a b c : Domain) → same_form a b ≡ true → narrows_domain c b ≡ true → same_form a c ≡ true
-form-narrows (Range l h) (Range l' h') (Range l'' h'') same narrows = refl
-form-narrows (Range l h) (Range l' h') (Words w) same narrows = absurd (false≢true narrows)
-form-narrows (Range l h) (Words w) c same narrows = absurd (false≢true same)
-form-narrows (Words w) (Range l h) c same narrows = absurd (false≢true same)
-form-narrows (Words w) (Words w') (Range l h) same narrows = absurd (false≢true narrows)
-form-narrows (Words w) (Words w') (Words w'') same narrows = refl
+form_narrows : (a b c : Domain) → same_form a b ≡ true → narrows_domain c b ≡ true → same_form a c ≡ true
+form_narrows (Range l h) (Range l' h') (Range l'' h'') same narrows = refl
+form_narrows (Range l h) (Range l' h') (Words w) same narrows = absurd (false≢true narrows)
+form_narrows (Range l h) (Words w) c same narrows = absurd (false≢true same)
+form_narrows (Words w) (Range l h) c same narrows = absurd (false≢true same)
+form_narrows (Words w) (Words w') (Range l h) same narrows = absurd (false≢true narrows)
+form_narrows (Words w) (Words w') (Words w'') same narrows = refl
 
 -- an attribute is of the form of its first declaration
 abbrev is_kept : List AttrDecl → Named AttrAt → Bool
@@ -63,9 +63,9 @@ is_kept all e = option_map_or (λ d. same_form d.domain e.what.domain) (slice_ge
 
 -- ---- lists
 
-all-map : {X Y : Type 0} (test : Y → Bool) (f : X → Y) (xs : List X) → list_all test (map f xs) ≡ list_all (λ x. test (f x)) xs
-all-map test f [] = refl
-all-map test f (x ∷ xs) = ap (λ b. test (f x) && b) (all-map test f xs)
+all_map : {X Y : Type 0} (test : Y → Bool) (f : X → Y) (xs : List X) → list_all test (map f xs) ≡ list_all (λ x. test (f x)) xs
+all_map test f [] = refl
+all_map test f (x ∷ xs) = ap (λ b. test (f x) && b) (all_map test f xs)
 
 -- what was found passes, and what all pass it passes
 found_passes : {X : Type 0} (p q : X → Bool) (xs : List X) (x : X) → list_all q xs ≡ true → find p xs ≡ Some x → (p x ≡ true) × (q x ≡ true)
@@ -81,7 +81,7 @@ find_named : (es : List (Named AttrAt)) (k : ℕ) (e : Named AttrAt) → is_dist
 find_named [] k e distinct at = absurd (cc)
 find_named (y ∷ ys) zero e distinct at =
     let same = same_item y e at in
-    let here : same_text y.name e.name ≡ true = ap (λ x. same_text y.name x.name) (sym same) ∙ same_text-refl y.name in
+    let here : same_text y.name e.name ≡ true = ap (λ x. same_text y.name x.name) (sym same) ∙ same_text_refl y.name in
     ap (λ b. cond b (Some y) (find (λ x. same_text x.name e.name) ys)) here ∙ ap (λ x. Some x) same
 find_named (y ∷ ys) (suc k) e distinct at =
     let other : same_text y.name e.name ≡ false = named_at (λ x. x.name) ys k e y.name at (grind (arith)) in
@@ -97,22 +97,22 @@ distinct_push (n ∷ ns) name new distinct =
     let swap = nat_list_eq_equiv.symm n name in
     grind (arith)
 
-with_new-distinct : {D : Type 0} (name_of : D → List ℕ) (firsts : List D) (d : D) (b : Bool) → list_any (λ e. same_text (name_of d) (name_of e)) firsts ≡ b
+with_new_distinct : {D : Type 0} (name_of : D → List ℕ) (firsts : List D) (d : D) (b : Bool) → list_any (λ e. same_text (name_of d) (name_of e)) firsts ≡ b
     → is_distinct (map name_of firsts) ≡ true → is_distinct (map name_of (cond b firsts (firsts ++ d ∷ []))) ≡ true
-with_new-distinct name_of firsts d true is distinct = distinct
-with_new-distinct name_of firsts d false is distinct =
-    ap is_distinct (map-append name_of firsts (d ∷ [])) ∙ distinct_push (map name_of firsts) (name_of d) (list_any-map (same_text (name_of d)) name_of firsts ∙ is) distinct
+with_new_distinct name_of firsts d true is distinct = distinct
+with_new_distinct name_of firsts d false is distinct =
+    ap is_distinct (map-append name_of firsts (d ∷ [])) ∙ distinct_push (map name_of firsts) (name_of d) (list_any_map (same_text (name_of d)) name_of firsts ∙ is) distinct
 
-firsts-distinct : {D : Type 0} (name_of : D → List ℕ) (ds firsts : List D) → is_distinct (map name_of firsts) ≡ true → is_distinct (map name_of (fold (with_new name_of) firsts ds)) ≡ true
-firsts-distinct name_of [] firsts distinct = distinct
-firsts-distinct name_of (d ∷ ds) firsts distinct =
-    firsts-distinct name_of ds (with_new name_of firsts d) (with_new-distinct name_of firsts d (list_any (λ e. same_text (name_of d) (name_of e)) firsts) refl distinct)
+firsts_distinct : {D : Type 0} (name_of : D → List ℕ) (ds firsts : List D) → is_distinct (map name_of firsts) ≡ true → is_distinct (map name_of (fold (with_new name_of) firsts ds)) ≡ true
+firsts_distinct name_of [] firsts distinct = distinct
+firsts_distinct name_of (d ∷ ds) firsts distinct =
+    firsts_distinct name_of ds (with_new name_of firsts d) (with_new_distinct name_of firsts d (list_any (λ e. same_text (name_of d) (name_of e)) firsts) refl distinct)
 
-names-distinct : (m : Model) (t : ℕ) → IsValid m → is_distinct (map (λ e. e.name) (attributes_of m.types t)) ≡ true
+names_distinct : (m : Model) (t : ℕ) → IsValid m → is_distinct (map (λ e. e.name) (attributes_of m.types t)) ≡ true
 unfolding first_declarations
-names-distinct m t valid =
+names_distinct m t valid =
     ap is_distinct (sym (attribute_names m t valid))
-    ∙ firsts-distinct (λ (d : AttrDecl). d.name) (flat_map (declarations_of (λ d. d.attributes) (λ d. d.name) m.types) (reverse (line m.types t))) [] refl
+    ∙ firsts_distinct (λ (d : AttrDecl). d.name) (flat_map (declarations_of (λ d. d.attributes) (λ d. d.name) m.types) (reverse (line m.types t))) [] refl
 
 -- ---- new attributes
 
@@ -122,7 +122,7 @@ new_kept : (all ds : List AttrDecl) (id : ℕ)
 new_kept all [] id places = refl
 new_kept all (d ∷ ds) id places =
     let first : slice_get all id ≡ Some d = cc in
-    let here : option_map_or (λ x. same_form x.domain d.domain) (slice_get all id) false ≡ true = ap (λ o. option_map_or (λ x. same_form x.domain d.domain) o false) first ∙ form-refl d.domain in
+    let here : option_map_or (λ x. same_form x.domain d.domain) (slice_get all id) false ≡ true = ap (λ o. option_map_or (λ x. same_form x.domain d.domain) o false) first ∙ form_refl d.domain in
     let rest = new_kept all ds (id + 1) (cc) in
     grind (arith)
 
@@ -130,7 +130,7 @@ new_kept all (d ∷ ds) id places =
 
 kept_narrow : (o : Option AttrDecl) (b c : Domain) → option_map_or (λ d. same_form d.domain b) o false ≡ true → narrows_domain c b ≡ true → option_map_or (λ d. same_form d.domain c) o false ≡ true
 kept_narrow None b c kept narrows = kept
-kept_narrow (Some d) b c kept narrows = form-narrows d.domain b c kept narrows
+kept_narrow (Some d) b c kept narrows = form_narrows d.domain b c kept narrows
 
 last_of : (a b : Bool) → (a && b) ≡ true → b ≡ true
 last_of a b both = grind (arith)
@@ -180,21 +180,21 @@ module _ (m : Model) (valid : IsValid m) where
       → list_all (is_kept all_firsts) (map (kept_by d.attributes) (attributes_of m.types p)) ≡ true
   inherited_kept d p parent narrows kept =
       let es = attributes_of m.types p in
-      all-map (is_kept all_firsts) (kept_by d.attributes) es
-      ∙ list_all-from (λ e. is_kept all_firsts (kept_by d.attributes e)) es
-      (λ k e at. one_kept d p e (find (λ a. same_text a.name e.name) d.attributes) parent (find_named es k e (names-distinct m p valid) at) refl narrows (list_all-at (is_kept all_firsts) es k e kept at))
+      all_map (is_kept all_firsts) (kept_by d.attributes) es
+      ∙ list_all_from_each (λ e. is_kept all_firsts (kept_by d.attributes e)) es
+      (λ k e at. one_kept d p e (find (λ a. same_text a.name e.name) d.attributes) parent (find_named es k e (names_distinct m p valid) at) refl narrows (list_all_at_place (is_kept all_firsts) es k e kept at))
 
   narrows_at : (u : ℕ) (d : TypeDecl) → slice_get m.types u ≡ Some d → list_all (attribute_narrows m d) d.attributes ≡ true
   unfolding has_narrowings
   narrows_at u d at =
       front_of _ (list_all (port_narrows m d) d.ports)
-      (list_all-at (λ t. list_all (attribute_narrows m t) t.attributes && list_all (port_narrows m t) t.ports) m.types u d valid.declared.taxonomy.narrowings at)
+      (list_all_at_place (λ t. list_all (attribute_narrows m t) t.attributes && list_all (port_narrows m t) t.ports) m.types u d valid.declared.taxonomy.narrowings at)
 
   new_of_type : (u : ℕ) → u < length m.types → list_all (is_kept all_firsts) (new_entries (λ d. d.attributes) (λ d. d.name) made_attribute (λ d a. made_attribute a.id d)
       (first_id (λ d. d.attributes) (λ d. d.name) m.types u) (new_declarations (λ d. d.attributes) (λ d. d.name) m.types u)) ≡ true
   new_of_type u within =
       new_kept all_firsts (new_declarations (λ d. d.attributes) (λ d. d.name) m.types u) (first_id (λ d. d.attributes) (λ d. d.name) m.types u)
-      (places-of_type (λ d. d.attributes) (λ d. d.name) made_attribute (λ d a. made_attribute a.id d) (λ a. a.id) (λ id d. refl) (λ d a. refl) m.types u within)
+      (places_of_type (λ d. d.attributes) (λ d. d.name) made_attribute (λ d a. made_attribute a.id d) (λ a. a.id) (λ id d. refl) (λ d a. refl) m.types u within)
 
   -- what a type has before its new attributes, where vs are its ancestors
   kept_part : (u : ℕ) (d : TypeDecl) (vs : List ℕ) (o : Option ℕ) → slice_get m.types u ≡ Some d → d.parent ≡ o → ancestors m.types u ≡ vs
@@ -206,7 +206,7 @@ module _ (m : Model) (valid : IsValid m) where
   kept_part u d vs (Some p) at parent above kept =
       let forest = no_cycle m valid.declared.taxonomy.forest in
       let same : line m.types p ≡ vs =
-      sym (line-stays m.types forest p)
+      sym (line_stays m.types forest p)
       ∙ sym (ap (λ k. drop 1 (option_map_or (λ x. u ∷ option_map_or (line_within (length m.types) m.types) x.parent []) k [])) at ∙ ap (λ k. option_map_or (line_within (length m.types) m.types) k []) parent)
       ∙ above in
       let kept' = subst (λ us. list_all (is_kept all_firsts) (fold extended [] (reverse us)) ≡ true) (sym same) kept in
@@ -232,7 +232,7 @@ module _ (m : Model) (valid : IsValid m) where
 
   kept_of : (t : ℕ) → list_all (is_kept all_firsts) (attributes_of m.types t) ≡ true
   unfolding attributes_of
-  kept_of t = kept_line (line m.types t) (line-IsLine m.types (no_cycle m valid.declared.taxonomy.forest) t) (line_within-types m.types (suc (length m.types)) t)
+  kept_of t = kept_line (line m.types t) (line_IsLine m.types (no_cycle m valid.declared.taxonomy.forest) t) (line_within_types m.types (suc (length m.types)) t)
 
 -- ---- the least value
 

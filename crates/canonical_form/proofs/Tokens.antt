@@ -17,13 +17,13 @@ head_stays end b bs x belonging ends same =
     let out : IsTrue (ends_there end (b ∷ bs)) = subst (λ v. IsTrue (ends_there end v)) same ends in
     false≢true (grind (arith))
 
-pub token-unique : (end : End) (a b x y : List ℕ) → list_all (belongs end) a ≡ true → list_all (belongs end) b ≡ true
+pub token_unique : (end : End) (a b x y : List ℕ) → list_all (belongs end) a ≡ true → list_all (belongs end) b ≡ true
     → IsTrue (ends_there end x) → IsTrue (ends_there end y) → a ++ x ≡ b ++ y → (a ≡ b) × (x ≡ y)
-token-unique end [] [] x y all_a all_b ends_x ends_y same = (refl, same)
-token-unique end [] (b ∷ bs) x y all_a all_b ends_x ends_y same = absurd (head_stays end b (bs ++ y) x (grind (arith)) ends_x same)
-token-unique end (a ∷ as') [] x y all_a all_b ends_x ends_y same = absurd (head_stays end a (as' ++ x) y (grind (arith)) ends_y (sym same))
-token-unique end (a ∷ as') (b ∷ bs) x y all_a all_b ends_x ends_y same =
-    let rest = token-unique end as' bs x y (grind (arith)) (grind (arith)) ends_x ends_y (cc) in
+token_unique end [] [] x y all_a all_b ends_x ends_y same = (refl, same)
+token_unique end [] (b ∷ bs) x y all_a all_b ends_x ends_y same = absurd (head_stays end b (bs ++ y) x (grind (arith)) ends_x same)
+token_unique end (a ∷ as') [] x y all_a all_b ends_x ends_y same = absurd (head_stays end a (as' ++ x) y (grind (arith)) ends_y (sym same))
+token_unique end (a ∷ as') (b ∷ bs) x y all_a all_b ends_x ends_y same =
+    let rest = token_unique end as' bs x y (grind (arith)) (grind (arith)) ends_x ends_y (cc) in
     let first : a ≡ b = cc in
     let both : as' ≡ bs = rest.0 in
     (cc, rest.1)
@@ -45,17 +45,17 @@ first_of_digits [] some all = absurd (omega arith)
 first_of_digits (d ∷ ds) some all = (d, ds, refl, grind (arith))
 
 -- the first of the digits
-pub decimal-cons : (n : ℕ) → n < 2 ^ 64 → (d : ℕ) × (ds : List ℕ) × (decimal n ≡ d ∷ ds) × (is_digit d ≡ true)
-decimal-cons n fits = first_of_digits (decimal n) (decimal_is_IsNumeral n fits).0.0 (decimal_digits n fits)
+pub decimal_cons : (n : ℕ) → n < 2 ^ 64 → (d : ℕ) × (ds : List ℕ) × (decimal n ≡ d ∷ ds) × (is_digit d ≡ true)
+decimal_cons n fits = first_of_digits (decimal n) (decimal_is_IsNumeral n fits).0.0 (decimal_digits n fits)
 
 -- ---- a token, byte by byte
 
-pub list_all-take_more : (p : ℕ → Bool) (bs : List ℕ) (n : ℕ) → n < length bs → list_all p (take n bs) ≡ true → p (get_or bs n 0) ≡ true → list_all p (take (n + 1) bs) ≡ true
-list_all-take_more p [] n within front here = absurd (omega arith)
-list_all-take_more p (b ∷ bs) zero within front here = grind (arith)
-list_all-take_more p (b ∷ bs) (suc n) within front here =
+pub list_all_take_more : (p : ℕ → Bool) (bs : List ℕ) (n : ℕ) → n < length bs → list_all p (take n bs) ≡ true → p (get_or bs n 0) ≡ true → list_all p (take (n + 1) bs) ≡ true
+list_all_take_more p [] n within front here = absurd (omega arith)
+list_all_take_more p (b ∷ bs) zero within front here = grind (arith)
+list_all_take_more p (b ∷ bs) (suc n) within front here =
     let e : suc n + 1 ≡ suc (n + 1) = omega arith in
-    let rest = list_all-take_more p bs n (omega arith) (grind (arith)) here in
+    let rest = list_all_take_more p bs n (omega arith) (grind (arith)) here in
     rw e (grind (arith))
 
 pub ends_at : (end : End) (bs : List ℕ) (n : ℕ) → n < length bs → belongs end (get_or bs n 0) ≡ false → IsTrue (ends_there end (drop n bs))

@@ -15,48 +15,48 @@ use Rattle.prod_model.specs.Forest.{line}
 use Rattle.prod_model.specs.Taxonomy.{Named, new_declarations, all_new_declarations, attributes_of, ports_of, attributes_at, words_of, first_words, made_attribute, made_port}
 use Rattle.prod_model.specs.Valid.{IsValid, has_distinct_names}
 use Rattle.canonical_form.specs.FirstDeclared.{first_declarations}
-use Rattle.canonical_form.proofs.SameNames.{map-map}
-use Rattle.prod_model.proofs.ForestLines.{no_cycle, line-IsLine}
-use Rattle.canonical_form.proofs.Firsts.{HasDistinct, firsts_of-line}
-use Rattle.canonical_form.proofs.Entries.{names-entries_of}
-use Rattle.canonical_form.proofs.Places.{places-entries_of}
+use Rattle.canonical_form.proofs.SameNames.{map_map}
+use Rattle.prod_model.proofs.ForestLines.{no_cycle, line_IsLine}
+use Rattle.canonical_form.proofs.Firsts.{HasDistinct, firsts_of_line}
+use Rattle.canonical_form.proofs.Entries.{names_entries_of}
+use Rattle.canonical_form.proofs.Places.{places_entries_of}
 
 -- ---- no name twice
 
-distinct-front : (xs ys : List (List ℕ)) → is_distinct (xs ++ ys) ≡ true → is_distinct xs ≡ true
-distinct-front [] ys distinct = refl
-distinct-front (x ∷ xs) ys distinct = let rest = distinct-front xs ys in let apart = list_any-append (same_text x) xs ys in grind (arith)
+distinct_front : (xs ys : List (List ℕ)) → is_distinct (xs ++ ys) ≡ true → is_distinct xs ≡ true
+distinct_front [] ys distinct = refl
+distinct_front (x ∷ xs) ys distinct = let rest = distinct_front xs ys in let apart = list_any-append (same_text x) xs ys in grind (arith)
 
-distinct-back : (xs ys : List (List ℕ)) → is_distinct (xs ++ ys) ≡ true → is_distinct ys ≡ true
-distinct-back [] ys distinct = distinct
-distinct-back (x ∷ xs) ys distinct = distinct-back xs ys (grind (arith))
+distinct_back : (xs ys : List (List ℕ)) → is_distinct (xs ++ ys) ≡ true → is_distinct ys ≡ true
+distinct_back [] ys distinct = distinct
+distinct_back (x ∷ xs) ys distinct = distinct_back xs ys (grind (arith))
 
-both-distinct : (types : List TypeDecl) (more : TypeDecl → Bool)
+both_distinct : (types : List TypeDecl) (more : TypeDecl → Bool)
     → list_all (λ d. is_distinct (map (λ a. a.name) d.attributes ++ map (λ p. p.name) d.ports) && more d) types ≡ true
     → HasDistinct (λ d. d.attributes) (λ d. d.name) types × HasDistinct (λ d. d.ports) (λ d. d.name) types
-both-distinct [] more distinct = (refl, refl)
-both-distinct (d ∷ ds) more distinct =
+both_distinct [] more distinct = (refl, refl)
+both_distinct (d ∷ ds) more distinct =
     let attributes = map (λ (a : AttrDecl). a.name) d.attributes in
     let ports = map (λ (p : PortDecl). p.name) d.ports in
-    let rest = both-distinct ds more (grind (arith)) in
-    let front = distinct-front attributes ports in
-    let back = distinct-back attributes ports in
+    let rest = both_distinct ds more (grind (arith)) in
+    let front = distinct_front attributes ports in
+    let back = distinct_back attributes ports in
     (grind (arith), grind (arith))
 
-last-of : (a b c : Bool) → (a && b && c) ≡ true → c ≡ true
-last-of a b c all = grind (arith)
+last_name_of : (a b c : Bool) → (a && b && c) ≡ true → c ≡ true
+last_name_of a b c all = grind (arith)
 
-distinct-names : (m : Model) → IsValid m → HasDistinct (λ d. d.attributes) (λ d. d.name) m.types × HasDistinct (λ d. d.ports) (λ d. d.name) m.types
+names_are_distinct : (m : Model) → IsValid m → HasDistinct (λ d. d.attributes) (λ d. d.name) m.types × HasDistinct (λ d. d.ports) (λ d. d.name) m.types
 unfolding has_distinct_names
-distinct-names m valid =
-    both-distinct m.types (λ d. list_all (λ a. is_distinct (words_of a.domain)) d.attributes) (last-of (is_distinct (map (λ (d : TypeDecl). d.name) m.types)) (is_distinct (map (λ (r : Rule). r.name) m.rules)) _ valid.declared.formed.distinct_names)
+names_are_distinct m valid =
+    both_distinct m.types (λ d. list_all (λ a. is_distinct (words_of a.domain)) d.attributes) (last_name_of (is_distinct (map (λ (d : TypeDecl). d.name) m.types)) (is_distinct (map (λ (r : Rule). r.name) m.rules)) _ valid.declared.formed.distinct_names)
 
 module _ {D : Type 0} (declared : TypeDecl → List D) (name_of : D → List ℕ) where
-  first_declarations-new : (m : Model) (t : ℕ) → IsValid m → HasDistinct declared name_of m.types
+  first_declarations_new : (m : Model) (t : ℕ) → IsValid m → HasDistinct declared name_of m.types
       → first_declarations declared name_of m.types t ≡ flat_map (new_declarations declared name_of m.types) (reverse (line m.types t))
   unfolding first_declarations
-  first_declarations-new m t valid distinct =
-      firsts_of-line declared name_of m.types (line m.types t) distinct (line-IsLine m.types (no_cycle m valid.declared.taxonomy.forest) t)
+  first_declarations_new m t valid distinct =
+      firsts_of_line declared name_of m.types (line m.types t) distinct (line_IsLine m.types (no_cycle m valid.declared.taxonomy.forest) t)
 
 -- ---- names
 
@@ -64,15 +64,15 @@ pub attribute_names : (m : Model) (t : ℕ) → IsValid m
     → map (λ d. d.name) (first_declarations (λ d. d.attributes) (λ d. d.name) m.types t) ≡ map (λ e. e.name) (attributes_of m.types t)
 unfolding attributes_of
 attribute_names m t valid =
-    ap (map (λ d. d.name)) (first_declarations-new (λ d. d.attributes) (λ d. d.name) m t valid (distinct-names m valid).0)
-    ∙ sym (names-entries_of (λ d. d.attributes) (λ d. d.name) made_attribute (λ d a. made_attribute a.id d) m.types t)
+    ap (map (λ d. d.name)) (first_declarations_new (λ d. d.attributes) (λ d. d.name) m t valid (names_are_distinct m valid).0)
+    ∙ sym (names_entries_of (λ d. d.attributes) (λ d. d.name) made_attribute (λ d a. made_attribute a.id d) m.types t)
 
 pub port_names : (m : Model) (t : ℕ) → IsValid m
     → map (λ d. d.name) (first_declarations (λ d. d.ports) (λ d. d.name) m.types t) ≡ map (λ e. e.name) (ports_of m.types t)
 unfolding ports_of
 port_names m t valid =
-    ap (map (λ d. d.name)) (first_declarations-new (λ d. d.ports) (λ d. d.name) m t valid (distinct-names m valid).1)
-    ∙ sym (names-entries_of (λ d. d.ports) (λ d. d.name) made_port (λ d p. made_port p.id d) m.types t)
+    ap (map (λ d. d.name)) (first_declarations_new (λ d. d.ports) (λ d. d.name) m t valid (names_are_distinct m valid).1)
+    ∙ sym (names_entries_of (λ d. d.ports) (λ d. d.name) made_port (λ d p. made_port p.id d) m.types t)
 
 -- ---- words
 
@@ -86,8 +86,8 @@ attribute_words m t valid =
     let all = all_new_declarations (λ d. d.attributes) (λ d. d.name) m.types in
     let firsts = flat_map (new_declarations (λ d. d.attributes) (λ d. d.name) m.types) (reverse (line m.types t)) in
     let place = λ (e : Named AttrAt). slice_get all e.what.id in
-    ap (map (λ d. words_of d.domain)) (first_declarations-new (λ d. d.attributes) (λ d. d.name) m t valid (distinct-names m valid).0)
-    ∙ sym (map-map word_list (λ d. Some d) firsts)
-    ∙ ap (map word_list) (sym (places-entries_of (λ d. d.attributes) (λ d. d.name) made_attribute (λ d a. made_attribute a.id d) (λ a. a.id) (λ id d. refl) (λ d a. refl) m.types t))
-    ∙ map-map word_list place (attributes_of m.types t)
-    ∙ sym (map-map (λ a. first_words m a.id) (λ e. e.what) (attributes_of m.types t))
+    ap (map (λ d. words_of d.domain)) (first_declarations_new (λ d. d.attributes) (λ d. d.name) m t valid (names_are_distinct m valid).0)
+    ∙ sym (map_map word_list (λ d. Some d) firsts)
+    ∙ ap (map word_list) (sym (places_entries_of (λ d. d.attributes) (λ d. d.name) made_attribute (λ d a. made_attribute a.id d) (λ a. a.id) (λ id d. refl) (λ d a. refl) m.types t))
+    ∙ map_map word_list place (attributes_of m.types t)
+    ∙ sym (map_map (λ a. first_words m a.id) (λ e. e.what) (attributes_of m.types t))

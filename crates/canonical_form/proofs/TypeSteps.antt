@@ -14,8 +14,8 @@ use Rattle.prod_model.specs.Valid.{IsValid}
 use Rattle.canonical_form.specs.AnswerText.{type_name}
 use Rattle.canonical_form.specs.AnswerParts.{behind_name}
 use Rattle.canonical_form.specs.Reading.{Takes, IsToken, type_text}
-use Rattle.canonical_form.proofs.LookUps.{same_item, position-hit, position-miss}
-use Rattle.prod_model.proofs.NameLaws.{same_text-refl}
+use Rattle.canonical_form.proofs.LookUps.{same_item, position_hit, position_miss}
+use Rattle.prod_model.proofs.NameLaws.{same_text_refl}
 use Rattle.canonical_form.proofs.ModelTexts.{leaf_is_type, type_bytes, type_of_name}
 use Rattle.canonical_form.proofs.ReadingSteps.{token_is}
 
@@ -32,7 +32,7 @@ pub record IsTypeOf (m : Model) (name : List ℕ) (t : ℕ) : Type 0 where
 pub type_found : (m : Model) (names : List (List ℕ)) (name : List ℕ) (t : ℕ) → names ≡ map (λ d. d.name) m.types → position (λ n. same_text n name) names ≡ Some t → IsTypeOf m name t
 type_found m names name t named found =
     let found' = subst (λ ns. position (λ n. same_text n name) ns ≡ Some t) named found in
-    let hit = position-hit (λ n. same_text n name) (map (λ d. d.name) m.types) t found' in
+    let hit = position_hit (λ n. same_text n name) (map (λ d. d.name) m.types) t found' in
     let many = length-map m.types (λ d. d.name) in
     let below = hit.within in
     let inside : t < length m.types = omega arith in
@@ -55,9 +55,9 @@ no_type m names bytes named name rest behind t valid known blank token none leaf
     let same = leaf_token m bytes named name rest behind t valid blank token takes in
     let none' = subst (λ ns. position (λ n. same_text n name) ns ≡ None) known none in
     let other : same_text (type_name m t) name ≡ false =
-    position-miss (λ n. same_text n name) (map (λ d. d.name) m.types) none' t (type_name m t) (name_at m.types t (leaf_is_type m t leaf)) in
+    position_miss (λ n. same_text n name) (map (λ d. d.name) m.types) none' t (type_name m t) (name_at m.types t (leaf_is_type m t leaf)) in
     let e : same_text (type_name m t) (type_name m t) ≡ false = subst (λ n. same_text (type_name m t) n ≡ false) same other in
-    false≢true (sym e ∙ same_text-refl (type_name m t))
+    false≢true (sym e ∙ same_text_refl (type_name m t))
 
 pub no_leaf : (m : Model) (bytes named name rest behind : List ℕ) (t k : ℕ) → IsValid m → bytes ≡ 32 ∷ named → IsToken behind_name named name rest
     → IsTypeOf m name k → is_leaf m k ≡ false → IsTrue (is_leaf m t) → Takes (type_text m t) behind_name bytes behind → ⊥

@@ -15,7 +15,7 @@ use Rattle.canonical_form.specs.Grammar.{State, at_header, at_header_end, at_num
 use Rattle.canonical_form.specs.declared.fault.AnswerRefusal.{AnswerRefusal}
 use Rattle.canonical_form.specs.declared.fault.AnswerRefusal.TheVariants.{Line, Memory}
 use Rattle.canonical_form.specs.Reading.{Refuses, IsRefusal}
-use Rattle.canonical_form.proofs.Paths.{Leads-append, BeginsWith-from_then}
+use Rattle.canonical_form.proofs.Paths.{Leads_append, BeginsWith_from_then}
 use Rattle.canonical_form.proofs.SpelledPaths.{spelled_list}
 use Rattle.canonical_form.proofs.Rebuilt.{rebuilt_all}
 use Rattle.canonical_form.proofs.Stuck.{goes_no_further, no_answer}
@@ -30,18 +30,18 @@ CanFinish m (at_number n) = n ≤ 64
 CanFinish m (at_type n) = n < 64
 CanFinish m (at_members n es qs) = (n < 64) × HaveLeast m es
 
-Follows-can : (m : Model) (s : State) (p : Part) (t : State) → IsValid m → CanFinish m s → Follows m s p t → CanFinish m t
-Follows-can m at_header p t valid can follows = subst (CanFinish m) (sym follows.1) tt
-Follows-can m at_header_end p t valid can follows = subst (CanFinish m) (sym follows.1) (omega arith)
-Follows-can m (at_number n) p t valid can follows = subst (CanFinish m) (sym follows.2) follows.0
-Follows-can m (at_type n) p t valid can follows = subst (CanFinish m) (sym follows.3) (can, least_values m follows.0 valid)
-Follows-can m (at_members n (e ∷ es) qs) p t valid can follows = subst (CanFinish m) (sym follows.3) (can.0, can.1.1)
-Follows-can m (at_members n [] (q ∷ qs)) p t valid can follows = subst (CanFinish m) (sym follows.3) (can.0, tt)
-Follows-can m (at_members n [] []) p t valid can follows = subst (CanFinish m) (sym follows.1) (let few = can.0 in omega arith)
+Follows_can : (m : Model) (s : State) (p : Part) (t : State) → IsValid m → CanFinish m s → Follows m s p t → CanFinish m t
+Follows_can m at_header p t valid can follows = subst (CanFinish m) (sym follows.1) tt
+Follows_can m at_header_end p t valid can follows = subst (CanFinish m) (sym follows.1) (omega arith)
+Follows_can m (at_number n) p t valid can follows = subst (CanFinish m) (sym follows.2) follows.0
+Follows_can m (at_type n) p t valid can follows = subst (CanFinish m) (sym follows.3) (can, least_values m follows.0 valid)
+Follows_can m (at_members n (e ∷ es) qs) p t valid can follows = subst (CanFinish m) (sym follows.3) (can.0, can.1.1)
+Follows_can m (at_members n [] (q ∷ qs)) p t valid can follows = subst (CanFinish m) (sym follows.3) (can.0, tt)
+Follows_can m (at_members n [] []) p t valid can follows = subst (CanFinish m) (sym follows.1) (let few = can.0 in omega arith)
 
-Leads-can : (m : Model) (s t : State) (ps : List Part) → IsValid m → CanFinish m s → Leads m s ps t → CanFinish m t
-Leads-can m s t [] valid can leads = subst (CanFinish m) leads can
-Leads-can m s t (p ∷ ps) valid can leads = Leads-can m leads.0 t ps valid (Follows-can m s p leads.0 valid can leads.1) leads.2
+Leads_can : (m : Model) (s t : State) (ps : List Part) → IsValid m → CanFinish m s → Leads m s ps t → CanFinish m t
+Leads_can m s t [] valid can leads = subst (CanFinish m) leads can
+Leads_can m s t (p ∷ ps) valid can leads = Leads_can m leads.0 t ps valid (Follows_can m s p leads.0 valid can leads.1) leads.2
 
 -- parts that lead on to the number behind an instance; the first is of the line and the code of the state
 record Finishes (m : Model) (s : State) : Type 0 where
@@ -106,7 +106,7 @@ record Continues (m : Model) (read : List Part) (line code : ℕ) : Type 0 where
 
 continued : (m : Model) (s : State) (read : List Part) → Leads m at_header read s → Finishes m s → Continues m read (line_of s) (code_of s)
 continued m s read leads finishes =
-    let all = rebuilt_all m finishes.count (read ++ finishes.part ∷ finishes.later) (Leads-append m at_header s (at_number finishes.count) read (finishes.part ∷ finishes.later) leads finishes.leads) in
+    let all = rebuilt_all m finishes.count (read ++ finishes.part ∷ finishes.later) (Leads_append m at_header s (at_number finishes.count) read (finishes.part ∷ finishes.later) leads finishes.leads) in
     let counted = all.count in
     let least = finishes.some in
     let most = finishes.few in
@@ -140,11 +140,11 @@ continues m (at_members n es qs) read valid can leads = continued m (at_members 
 -- the line and the code at which a reader stops are those of the first bad line
 pub first_bad_line : (m : Model) (bytes : List ℕ) (line code : ℕ) → IsValid m → Stops m at_header bytes line code → IsFirstBadLine m bytes line code
 first_bad_line m bytes line code valid stops =
-    let found = continues m stops.state stops.reads.read valid (Leads-can m at_header stops.state stops.reads.read valid tt stops.reads.leads) stops.reads.leads in
+    let found = continues m stops.state stops.reads.read valid (Leads_can m at_header stops.state stops.reads.read valid tt stops.reads.leads) stops.reads.leads in
     record {
       no_answer = no_answer m bytes line code valid stops;
       read = stops.reads.read;
-      begins = BeginsWith-from_then stops.reads.read bytes stops.rest stops.reads.begins;
+      begins = BeginsWith_from_then stops.reads.read bytes stops.rest stops.reads.begins;
       goes_no_further = goes_no_further m bytes line code valid stops;
       c = found.c;
       spelled = found.spelled;

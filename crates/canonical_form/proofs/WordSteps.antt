@@ -10,8 +10,8 @@ use Rattle.config_value.specs.Spelled.{is_word_place}
 use Rattle.canonical_form.specs.Pieces.{word_piece}
 use Rattle.canonical_form.specs.AnswerParts.{behind_word}
 use Rattle.canonical_form.specs.Reading.{Takes, IsToken}
-use Rattle.canonical_form.proofs.LookUps.{position-hit, position-miss}
-use Rattle.prod_model.proofs.NameLaws.{same_text-refl}
+use Rattle.canonical_form.proofs.LookUps.{position_hit, position_miss}
+use Rattle.prod_model.proofs.NameLaws.{same_text_refl}
 use Rattle.canonical_form.proofs.ModelTexts.{word_bytes_at}
 use Rattle.canonical_form.proofs.ReadingSteps.{token_is}
 
@@ -30,15 +30,15 @@ pub no_word : (words : List (List ℕ)) (bytes text rest behind : List ℕ) (v :
 no_word words bytes text rest behind (pos n) formed token none place takes =
     let word = slice_index_or words n [] in
     let same = token_is behind_word bytes text rest word behind token (word_bytes_at words n formed) takes in
-    let other : same_text word text ≡ false = position-miss (λ w. same_text w text) words none n word (at_word words n (grind (arith, nat_tests))) in
+    let other : same_text word text ≡ false = position_miss (λ w. same_text w text) words none n word (at_word words n (grind (arith, nat_tests))) in
     let e : same_text word word ≡ false = subst (λ t. same_text word t ≡ false) same.0 other in
-    false≢true (sym e ∙ same_text-refl word)
+    false≢true (sym e ∙ same_text_refl word)
 no_word words bytes text rest behind (negsuc n) formed token none place takes = false≢true place
 
 pub found_word : (words : List (List ℕ)) (bytes text rest : List ℕ) (k : ℕ) → IsToken behind_word bytes text rest → position (λ w. same_text w text) words ≡ Some k
     → IsTrue (is_word_place (length words) (pos k)) × Takes (word_piece words (pos k)) behind_word bytes rest
 found_word words bytes text rest k token found =
-    let hit = position-hit (λ w. same_text w text) words k found in
+    let hit = position_hit (λ w. same_text w text) words k found in
     let same : hit.item ≡ text = text_same hit.item text (sym hit.passes) in
     let word : slice_index_or words k [] ≡ text = word_at words k hit.item hit.at ∙ same in
     let within = hit.within in

@@ -24,8 +24,8 @@ use Rattle.model_reader.specs.Plain.{is_range, is_plain_comparison}
 use Rattle.config_cli.specs.Sides.{is_met, meets_rules}
 use Rattle.config_cli.specs.Walk.{is_in_ranges, alone, IsChoice}
 use Rattle.config_cli.proofs.OneType.{one_type, IsPlainParts}
-use Rattle.config_cli.proofs.OneTypeAttributes.{made, length-made, attributes_at-one_type, ports_at-one_type, value_of-one_type}
-use Rattle.config_cli.proofs.SideLaws.{is_true_at-alone}
+use Rattle.config_cli.proofs.OneTypeAttributes.{made, length_made, attributes_at_one_type, ports_at_one_type, value_of_one_type}
+use Rattle.config_cli.proofs.SideLaws.{is_true_at_alone}
 
 -- lists that are compared pair by pair are as long
 pub long : {A B : Type 0} (test : A → B → Bool) (xs : List A) (ys : List B) → IsTrue (pointwise test xs ys) → length ys ≡ length xs
@@ -82,7 +82,7 @@ module _ (instances : ℕ) (name : List ℕ) (attributes : List AttrDecl) (rules
       let zero_is : r.kind ≡ 0 = let below = ltb-true r.kind 1 kind in omega arith in
       ap (λ k. (not ((0 == k) || false) || is_true_at m (alone values) 0 r.holds) && true) zero_is
       ∙ last (is_true_at m (alone values) 0 r.holds)
-      ∙ is_true_at-alone m values (value_of-one_type instances name attributes rules values e) r.holds plain
+      ∙ is_true_at_alone m values (value_of_one_type instances name attributes rules values e) r.holds plain
     where
       last : (b : Bool) → b && true ≡ b
       last true = refl
@@ -98,11 +98,11 @@ module _ (instances : ℕ) (name : List ℕ) (attributes : List AttrDecl) (rules
       let p = and_parts _ _ plain in
       ap₂ ◌&&◌ (rule_at values e r k.0 p.0) (rules_at values e rs k.1 p.1)
 
-  follows_rules-alone : (values : List ℤ) → length values ≡ length attributes
+  follows_rules_alone : (values : List ℤ) → length values ≡ length attributes
       → IsTrue (list_all (λ r. nat_lt r.kind 1) rules) → IsTrue (list_all (λ r. is_plain_comparison (out-Expr r.holds)) rules)
       → follows_rules m (alone values) ≡ meets_rules values rules
   unfolding follows_rules
-  follows_rules-alone values e kinds plain = rules_at values e rules kinds plain
+  follows_rules_alone values e kinds plain = rules_at values e rules kinds plain
 
   -- ---- a candidate is one instance
 
@@ -118,7 +118,7 @@ module _ (instances : ℕ) (name : List ℕ) (attributes : List AttrDecl) (rules
       let outer = and_parts _ _ h in
       let inner = and_parts _ _ outer.0 in
       let kind : x.kind ≡ 0 = let below = ltb-true x.kind 1 (and_parts _ _ inner.0).0 in omega arith in
-      let no_ports = ap (λ k. length (ports_at m k)) kind ∙ ap length (ports_at-one_type instances name attributes rules) in
+      let no_ports = ap (λ k. length (ports_at m k)) kind ∙ ap length (ports_at_one_type instances name attributes rules) in
       record { kind = kind; links = nothing x.links (eqb-true _ _ outer.1 ∙ no_ports) }
     where
       nothing : {A : Type 0} (xs : List A) → length xs ≡ 0 → xs ≡ []
@@ -185,14 +185,14 @@ module _ (instances : ℕ) (name : List ℕ) (attributes : List AttrDecl) (rules
     in_ranges_is : (values : List ℤ)
         → pointwise (has_value m) (attributes_at m 0) values ≡ is_in_ranges (attributes_at m 0) values
     in_ranges_is values =
-        let is = attributes_at-one_type instances name attributes rules in
+        let is = attributes_at_one_type instances name attributes rules in
         ap (λ entries. pointwise (has_value m) entries values) is ∙ ranged m 0 attributes values parts.ranges
         ∙ ap (λ (entries : List AttrAt). is_in_ranges entries values) (sym is)
 
     -- values in the ranges are as many as the attributes
     pub values_long : (values : List ℤ) → IsTrue (is_in_ranges (attributes_at m 0) values) → length values ≡ length attributes
     values_long values h = long (λ (a : AttrAt) v. is_in a.domain [] v) (attributes_at m 0) values h
-        ∙ ap length (attributes_at-one_type instances name attributes rules) ∙ length-made 0 attributes
+        ∙ ap length (attributes_at_one_type instances name attributes rules) ∙ length_made 0 attributes
 
     -- what the walk may choose satisfies the model
     pub choice_satisfies : (values : List ℤ) → IsChoice rules (attributes_at m 0) [] values → IsTrue (satisfies m (alone values))
@@ -200,7 +200,7 @@ module _ (instances : ℕ) (name : List ℕ) (attributes : List AttrDecl) (rules
     choice_satisfies values c =
         let in_ranges = ap (λ vs. is_in_ranges (attributes_at m 0) vs) c.joined ∙ c.in_ranges in
         and_from _ _ (and_from _ _ (shaped_alone values parts.some (in_ranges_is values ∙ in_ranges)) (numbered_alone values))
-        (follows_rules-alone values (values_long values in_ranges) parts.kinds parts.comparisons ∙ c.met)
+        (follows_rules_alone values (values_long values in_ranges) parts.kinds parts.comparisons ∙ c.met)
 
     -- what satisfies the model is one that the walk may choose
     pub satisfied_choice : (c : List Instance) → IsTrue (satisfies m c)
@@ -216,6 +216,6 @@ module _ (instances : ℕ) (name : List ℕ) (attributes : List AttrDecl) (rules
             rest = a.values;
             joined = refl;
             in_ranges = in_ranges;
-            met = sym (follows_rules-alone a.values (values_long a.values in_ranges) parts.kinds parts.comparisons) ∙ follows;
+            met = sym (follows_rules_alone a.values (values_long a.values in_ranges) parts.kinds parts.comparisons) ∙ follows;
           },
         )

@@ -30,13 +30,13 @@ entries_made id [] = refl
 entries_made id (d ∷ ds) = ap (λ more. made_attribute id d ∷ more) (entries_made (id + 1) ds)
 
 module _ (instances : ℕ) (name : List ℕ) (attributes : List AttrDecl) (rules : List Rule) where
-  pub attributes_at-one_type : attributes_at (one_type instances name attributes rules) 0 ≡ made 0 attributes
+  pub attributes_at_one_type : attributes_at (one_type instances name attributes rules) 0 ≡ made 0 attributes
   unfolding attributes_of
-  attributes_at-one_type = entries_made 0 attributes
+  attributes_at_one_type = entries_made 0 attributes
 
-  pub ports_at-one_type : ports_at (one_type instances name attributes rules) 0 ≡ []
+  pub ports_at_one_type : ports_at (one_type instances name attributes rules) 0 ≡ []
   unfolding ports_of
-  ports_at-one_type = refl
+  ports_at_one_type = refl
 
 -- an id that is one of theirs stands at its place
 place_made : (ds : List AttrDecl) (id t : ℕ) → id ≤ t → t < id + length ds → position_or_len (λ a. a.id == t) (made id ds) + id ≡ t
@@ -48,9 +48,9 @@ place_none : (ds : List AttrDecl) (id t : ℕ) → id + length ds ≤ t → posi
 place_none [] id t beyond = refl
 place_none (d ∷ ds) id t beyond = grind (arith, nat_tests, place_none ds (id + 1) t)
 
-pub length-made : (id : ℕ) (ds : List AttrDecl) → length (made id ds) ≡ length ds
-length-made id [] = refl
-length-made id (d ∷ ds) = ap suc (length-made (id + 1) ds)
+pub length_made : (id : ℕ) (ds : List AttrDecl) → length (made id ds) ≡ length ds
+length_made id [] = refl
+length_made id (d ∷ ds) = ap suc (length_made (id + 1) ds)
 
 -- the value at a place, if there is one there
 abbrev read_at : List ℤ → ℕ → ℕ → ℤ
@@ -72,12 +72,12 @@ read_made values id place count long within beyond = elim (cases_lt id count) [ 
         rw (beyond most, no_place) (sym (get_or-eq_default values (pos 0) past))
 
 module _ (instances : ℕ) (name : List ℕ) (attributes : List AttrDecl) (rules : List Rule) where
-  pub value_of-one_type : (values : List ℤ) → length values ≡ length attributes → (a : ℕ)
+  pub value_of_one_type : (values : List ℤ) → length values ≡ length attributes → (a : ℕ)
       → value_of (one_type instances name attributes rules) (record { kind = 0; values = values; links = [] }) a ≡ get_or values a (pos 0)
-  value_of-one_type values long a =
-      let count = length-made 0 attributes in
+  value_of_one_type values long a =
+      let count = length_made 0 attributes in
       ap (λ (entries : List AttrAt). option_map_or (λ k. get_or values k (pos 0)) (position (λ x. x.id == a) entries) (pos 0))
-      (attributes_at-one_type instances name attributes rules)
+      (attributes_at_one_type instances name attributes rules)
       ∙ read_made values a (position_or_len (λ x. x.id == a) (made 0 attributes)) (length (made 0 attributes)) (long ∙ sym count)
       (λ less. let place = place_made attributes 0 a (omega arith) (omega arith) in omega arith)
       (λ most. place_none attributes 0 a (omega arith) ∙ sym count)

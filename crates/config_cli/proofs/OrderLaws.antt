@@ -21,7 +21,7 @@ use Rattle.model_reader.specs.Files.{◌>>=◌, has_only, text_at, list_at, all_
 use Rattle.model_reader.specs.PlainFile.{plain_side}
 use Rattle.model_reader.proofs.StepLaws.{first_holds, second_holds, both_hold, some_same, provided_test, provided_value, mapped, found_then, all_of_pass, list_all_by}
 use Rattle.model_reader.proofs.SideLaws.{IsSide, side}
-use Rattle.model_reader.proofs.PlainLaws.{attributes_at-plain, sound_attributes, root_is_first}
+use Rattle.model_reader.proofs.PlainLaws.{attributes_at_plain, sound_attributes, root_is_first}
 use Rattle.config_cli.specs.PlainOrder.{plain_aim, plain_criterion, plain_order, is_plain_order, attributes_declared}
 
 module _ (m : Model) (plain : is_plain m ≡ true) (valid : IsValid m) where
@@ -33,7 +33,7 @@ module _ (m : Model) (plain : is_plain m ≡ true) (valid : IsValid m) where
           option_map (λ e. (maximise, e)) (plain_side (attributes_declared m) value) ≡ Some aim → IsSide m aim.1
       of_side maximise value g =
           let read = mapped (plain_side (attributes_declared m) value) (λ e. (maximise, e)) aim g in
-          rw (← read.is) (side m (attributes_declared m) (attributes_at-plain m plain) (sound_attributes m plain valid) value read.value read.found)
+          rw (← read.is) (side m (attributes_declared m) (attributes_at_plain m plain) (sound_attributes m plain valid) value read.value read.found)
 
       of_members : (least most : Option Data) → get (codes "minimise") d ≡ least → get (codes "maximise") d ≡ most → IsSide m aim.1
       of_members (Some value) None l g = of_side false value (rw (l, g) at h)
@@ -108,8 +108,8 @@ module _ (m : Model) (plain : is_plain m ≡ true) (valid : IsValid m) where
         (λ r h. second_holds (is_name r.name && is_plain_side (out-Expr r.value)) (is_number_at m m.root r.value) h)
         criteria right
 
-  pub plain_order-IsValidOrder : (d : Data) (o : Order) → plain_order (attributes_declared m) d ≡ Some o → IsValidOrder m o
-  plain_order-IsValidOrder d o h =
+  pub plain_order_IsValidOrder : (d : Data) (o : Order) → plain_order (attributes_declared m) d ≡ Some o → IsValidOrder m o
+  plain_order_IsValidOrder d o h =
       let r = right_order d o h in
       rw r.is record {
         few = r.few;
@@ -119,8 +119,8 @@ module _ (m : Model) (plain : is_plain m ≡ true) (valid : IsValid m) where
         criteria = all_numbers r.criteria r.right;
       }
 
-  pub plain_order-is_plain_order : (d : Data) (o : Order) → plain_order (attributes_declared m) d ≡ Some o → is_plain_order o ≡ true
+  pub plain_order_is_plain_order : (d : Data) (o : Order) → plain_order (attributes_declared m) d ≡ Some o → is_plain_order o ≡ true
   unfolding is_plain_order
-  plain_order-is_plain_order d o h =
+  plain_order_is_plain_order d o h =
       let r = right_order d o h in
       rw r.is (all_plain r.criteria r.right)

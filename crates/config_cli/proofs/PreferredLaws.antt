@@ -30,10 +30,10 @@ use Rattle.config_cli.specs.Sides.{values_order}
 use Rattle.config_cli.specs.Best.{Among}
 use Rattle.config_cli.specs.Walk.{is_in_ranges, alone, IsChoice, FindsFirst}
 use Rattle.config_cli.proofs.OneType.{IsPlainParts, one_type, one_type_of}
-use Rattle.config_cli.proofs.OneTypeAttributes.{made, attributes_at-one_type, value_of-one_type}
+use Rattle.config_cli.proofs.OneTypeAttributes.{made, attributes_at_one_type, value_of_one_type}
 use Rattle.config_cli.proofs.WalkLaws.{int_le_true, int_le_from, no_word}
 use Rattle.config_cli.proofs.AloneLaws.{leaf_type, long, values_long, choice_satisfies, satisfied_choice}
-use Rattle.config_cli.proofs.RankAloneLaws.{rank_order-alone}
+use Rattle.config_cli.proofs.RankAloneLaws.{rank_order_alone}
 
 -- the first values found for the model and the order
 abbrev pub WalkFinds : Model → Order → Option (List ℤ) → Type 0
@@ -99,9 +99,9 @@ module _ (instances : ℕ) (name : List ℕ) (attributes : List AttrDecl) (rules
   comes_first : (xs ys : List ℤ) → Chosen xs → Chosen ys
       → RanksBefore m o (alone xs) (alone ys) → IsTrue (is_lt (values_order o.criteria xs ys))
   comes_first xs ys c d h =
-      let reads_xs = value_of-one_type instances name attributes rules xs (as_long xs c) in
-      let reads_ys = value_of-one_type instances name attributes rules ys (as_long ys d) in
-      ap is_lt (sym (rank_order-alone m xs ys reads_xs reads_ys o sides)) ∙ h
+      let reads_xs = value_of_one_type instances name attributes rules xs (as_long xs c) in
+      let reads_ys = value_of_one_type instances name attributes rules ys (as_long ys d) in
+      ap is_lt (sym (rank_order_alone m xs ys reads_xs reads_ys o sides)) ∙ h
 
   preferred : (values : List ℤ) → WalkFinds m o (Some values) → IsPreferred m o (all_kept o) (alone values)
   preferred values finds =
@@ -131,7 +131,7 @@ module _ (instances : ℕ) (name : List ℕ) (attributes : List AttrDecl) (rules
     where
       written : Chosen values → IsTrue (is_spelled m (alone values))
       written c =
-          let is = attributes_at-one_type instances name attributes rules in
+          let is = attributes_at_one_type instances name attributes rules in
           let among = in_ranges values c in
           let values_written = ap (λ entries. pointwise (is_spelled_value m) entries values) is
           ∙ spelled_values m 0 attributes values parts.ends (ap (λ (entries : List AttrAt). is_in_ranges entries values) (sym is) ∙ among) in

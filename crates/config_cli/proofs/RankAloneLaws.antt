@@ -15,15 +15,15 @@ use Rattle.config_value.specs.Rank.{key, key_order, rank, rank_order}
 use Rattle.model_reader.specs.Plain.{is_plain_side}
 use Rattle.config_cli.specs.Sides.{side_value, criterion_order, criteria_order, values_order}
 use Rattle.config_cli.specs.Walk.{alone}
-use Rattle.config_cli.proofs.SideLaws.{number_at-alone}
+use Rattle.config_cli.proofs.SideLaws.{number_at_alone}
 use Rattle.std.specs.Prelude.{slice_index_or}
 
 -- negated numbers compare the other way round
-int_lt-neg : (a b : ℤ) → int_lt (neg_ℤ a) (neg_ℤ b) ≡ int_lt b a
-int_lt-neg a b = grind (arith, ints)
+int_lt_neg : (a b : ℤ) → int_lt (neg_ℤ a) (neg_ℤ b) ≡ int_lt b a
+int_lt_neg a b = grind (arith, ints)
 
-int_cmp-neg : (a b : ℤ) → int_cmp (neg_ℤ a) (neg_ℤ b) ≡ int_cmp b a
-int_cmp-neg a b = rw (int_lt-neg a b, int_lt-neg b a) refl
+int_cmp_neg : (a b : ℤ) → int_cmp (neg_ℤ a) (neg_ℤ b) ≡ int_cmp b a
+int_cmp_neg a b = rw (int_lt_neg a b, int_lt_neg b a) refl
 
 -- a number, negated where it is maximised
 abbrev ranked : Bool → ℤ → ℤ
@@ -32,13 +32,13 @@ ranked maximise n = if maximise then neg_ℤ n else n
 -- two of them are compared as by the criterion
 one_rank : (maximise : Bool) (a b : ℤ)
     → int_cmp (ranked maximise a) (ranked maximise b) ≡ (if maximise then int_cmp b a else int_cmp a b)
-one_rank true a b = int_cmp-neg a b
+one_rank true a b = int_cmp_neg a b
 one_rank false a b = refl
 
 -- the keys of such configurations are compared value by value
-key_order-alone : (xs ys : List ℤ) → key_order (alone xs) (alone ys) ≡ slice_cmp int_cmp xs ys
+key_order_alone : (xs ys : List ℤ) → key_order (alone xs) (alone ys) ≡ slice_cmp int_cmp xs ys
 unfolding key
-key_order-alone xs ys = ap₂ (slice_cmp int_cmp) (append-nil (xs ++ []) ∙ append-nil xs) (append-nil (ys ++ []) ∙ append-nil ys)
+key_order_alone xs ys = ap₂ (slice_cmp int_cmp) (append-nil (xs ++ []) ∙ append-nil xs) (append-nil (ys ++ []) ∙ append-nil ys)
 
 module _ (m : Model) (xs ys : List ℤ)
     (reads_xs : (a : ℕ) → value_of m (record { kind = 0; values = xs; links = [] }) a ≡ slice_index_or xs a (pos 0))
@@ -48,7 +48,7 @@ module _ (m : Model) (xs ys : List ℤ)
       ≡ criterion_order r xs ys
   rank_one r plain =
       ap₂ (λ a b. int_cmp (ranked r.maximise a) (ranked r.maximise b))
-      (number_at-alone m xs reads_xs r.value plain) (number_at-alone m ys reads_ys r.value plain)
+      (number_at_alone m xs reads_xs r.value plain) (number_at_alone m ys reads_ys r.value plain)
       ∙ one_rank r.maximise (side_value xs (out-Expr r.value)) (side_value ys (out-Expr r.value))
 
   ranks : (rs : List Criterion) → IsTrue (list_all (λ r. is_plain_side (out-Expr r.value)) rs)
@@ -57,7 +57,7 @@ module _ (m : Model) (xs ys : List ℤ)
   ranks [] plain = refl
   ranks (r ∷ rs) plain = let both = and_parts _ _ plain in ap₂ ordering_then (rank_one r both.0) (ranks rs both.1)
 
-  pub rank_order-alone : (o : Order) → IsTrue (list_all (λ r. is_plain_side (out-Expr r.value)) o.criteria)
+  pub rank_order_alone : (o : Order) → IsTrue (list_all (λ r. is_plain_side (out-Expr r.value)) o.criteria)
       → rank_order m o (alone xs) (alone ys) ≡ values_order o.criteria xs ys
   unfolding rank_order rank
-  rank_order-alone o plain = ap₂ ordering_then (ranks o.criteria plain) (key_order-alone xs ys)
+  rank_order_alone o plain = ap₂ ordering_then (ranks o.criteria plain) (key_order_alone xs ys)

@@ -19,9 +19,9 @@ module _ (m : Model) (values : List ℤ)
   values_of = fold-Expr (ℕ → Found) (layer_value m (alone values))
 
   -- a plain side is the number that the values give it
-  pub number_at-alone : (e : Expr) → IsTrue (is_plain_side (out-Expr e)) → number_at m (alone values) 0 e ≡ side_value values (out-Expr e)
+  pub number_at_alone : (e : Expr) → IsTrue (is_plain_side (out-Expr e)) → number_at m (alone values) 0 e ≡ side_value values (out-Expr e)
   unfolding value_at values_of
-  number_at-alone e plain =
+  number_at_alone e plain =
       ap (λ (f : ℕ → Found). as_number (f 0)) (fold_out-Expr (ℕ → Found) (layer_value m (alone values)) e) ∙ of_form (out-Expr e) plain
     where
       of_form : (l : Expr-F Expr) → IsTrue (is_plain_side l)
@@ -31,13 +31,13 @@ module _ (m : Model) (values : List ℤ)
       of_form _ h = absurd (true≢false (sym h))
 
   -- a plain comparison is true where it is met
-  pub is_true_at-alone : (e : Expr) → IsTrue (is_plain_comparison (out-Expr e)) → is_true_at m (alone values) 0 e ≡ is_met values (out-Expr e)
+  pub is_true_at_alone : (e : Expr) → IsTrue (is_plain_comparison (out-Expr e)) → is_true_at m (alone values) 0 e ≡ is_met values (out-Expr e)
   unfolding value_at values_of
-  is_true_at-alone e plain =
+  is_true_at_alone e plain =
       ap (λ (f : ℕ → Found). as_truth (f 0)) (fold_out-Expr (ℕ → Found) (layer_value m (alone values)) e) ∙ of_form (out-Expr e) plain
     where
       of_form : (l : Expr-F Expr) → IsTrue (is_plain_comparison l)
           → as_truth (layer_value m (alone values) (map-Expr Expr (ℕ → Found) values_of l) 0) ≡ is_met values l
       of_form (Cmp r x y) h =
-          let sides = and_parts _ _ h in ap₂ (holds r) (number_at-alone x sides.0) (number_at-alone y sides.1)
+          let sides = and_parts _ _ h in ap₂ (holds r) (number_at_alone x sides.0) (number_at_alone y sides.1)
       of_form _ h = absurd (true≢false (sym h))

@@ -11,9 +11,9 @@ use Rattle.prod_model.specs.Valid.{IsValidOrder}
 abbrev pub one_wish : Expr → Order
 one_wish e = record { requests = record { name = codes "wish"; holds = e } ∷ []; criteria = [] }
 
-pub one_wish-valid : (m : Model) (e : Expr) → IsTrue (is_truth_at m m.root e) → IsValidOrder m (one_wish e)
+pub one_wish_valid : (m : Model) (e : Expr) → IsTrue (is_truth_at m m.root e) → IsValidOrder m (one_wish e)
 unfolding is_name
-one_wish-valid m e truth = record {
+one_wish_valid m e truth = record {
   few = refl;
   formed_names = refl;
   distinct_names = refl;

@@ -48,32 +48,32 @@ none_kept : List Bool → List Bool
 none_kept x = map (λ b. false) x
 
 -- it is as long
-length-none_kept : (x : List Bool) → length (none_kept x) ≡ length x
+length_none_kept : (x : List Bool) → length (none_kept x) ≡ length x
 unfolding none_kept
-length-none_kept [] = refl
-length-none_kept (b ∷ x) = ap suc (length-none_kept x)
+length_none_kept [] = refl
+length_none_kept (b ∷ x) = ap suc (length_none_kept x)
 
 -- it keeps none
-list_all-not-none_kept : (x : List Bool) → IsTrue (list_all not (none_kept x))
+list_all_not_none_kept : (x : List Bool) → IsTrue (list_all not (none_kept x))
 unfolding none_kept
-list_all-not-none_kept [] = refl
-list_all-not-none_kept (b ∷ x) = list_all-not-none_kept x
+list_all_not_none_kept [] = refl
+list_all_not_none_kept (b ∷ x) = list_all_not_none_kept x
 
 -- there is no request that it keeps
-slice_get-none_kept : (x : List Bool) (i : ℕ) → ¬ (slice_get (none_kept x) i ≡ Some true)
+slice_get_none_kept : (x : List Bool) (i : ℕ) → ¬ (slice_get (none_kept x) i ≡ Some true)
 unfolding none_kept
-slice_get-none_kept [] i e = absurd cc
-slice_get-none_kept (b ∷ x) zero e = true≢false cc
-slice_get-none_kept (b ∷ x) (suc i) e = slice_get-none_kept x i e
+slice_get_none_kept [] i e = absurd cc
+slice_get_none_kept (b ∷ x) zero e = true≢false cc
+slice_get_none_kept (b ∷ x) (suc i) e = slice_get_none_kept x i e
 
 -- every configuration meets a set that keeps no request
-pointwise-none_kept : (test : Request → Bool) (keep : List Bool) (rs : List Request) → IsTrue (list_all not keep) → length keep ≡ length rs
+pointwise_none_kept : (test : Request → Bool) (keep : List Bool) (rs : List Request) → IsTrue (list_all not keep) → length keep ≡ length rs
     → IsTrue (pointwise (λ kept r. not kept || test r) keep rs)
-pointwise-none_kept test [] [] none e = refl
-pointwise-none_kept test [] (r ∷ rs) none e = absurd cc
-pointwise-none_kept test (b ∷ keep) [] none e = absurd cc
-pointwise-none_kept test (true ∷ keep) (r ∷ rs) none e = absurd cc
-pointwise-none_kept test (false ∷ keep) (r ∷ rs) none e = pointwise-none_kept test keep rs none cc
+pointwise_none_kept test [] [] none e = refl
+pointwise_none_kept test [] (r ∷ rs) none e = absurd cc
+pointwise_none_kept test (b ∷ keep) [] none e = absurd cc
+pointwise_none_kept test (true ∷ keep) (r ∷ rs) none e = absurd cc
+pointwise_none_kept test (false ∷ keep) (r ∷ rs) none e = pointwise_none_kept test keep rs none cc
 
 -- ---- the laws
 
@@ -97,7 +97,7 @@ preferred_conflict_is_minimal m o x part p within conflict = elim (antilex_total
 none_satisfies : (m : Model) (o : Order) (x : List Bool) → IsConflict m o x → IsTrue (list_all not x)
     → (c : List Instance) → ¬ IsTrue (satisfies m c)
 unfolding meets_kept
-none_satisfies m o x p none c s = p.unmet c (record { satisfied = s; met = pointwise-none_kept (meets m c) x o.requests none p.each_request })
+none_satisfies m o x p none c s = p.unmet c (record { satisfied = s; met = pointwise_none_kept (meets m c) x o.requests none p.each_request })
 
 -- where no configuration satisfies the model, every set of the order's requests is a conflict
 all_conflict : (m : Model) (o : Order) (x : List Bool) → length x ≡ length o.requests
@@ -108,10 +108,10 @@ all_conflict m o x e none = record { each_request = e; unmet = λ c candidate. n
 -- and what keeps one is no smaller.
 keeps_none : (m : Model) (o : Order) (x : List Bool) → IsPreferredConflict m o x
     → ((c : List Instance) → ¬ IsTrue (satisfies m c)) → IsTrue (list_all not x)
-keeps_none m o x p none = elim (antilex_total (none_kept x) x (length-none_kept x)) [
-  | inl same ↦ subst (λ y. IsTrue (list_all not y)) same (list_all-not-none_kept x)
-  | inr (inl s) ↦ absurd (p.none_before (none_kept x) (all_conflict m o (none_kept x) (length-none_kept x ∙ p.is.each_request) none) s)
-  | inr (inr s) ↦ absurd (slice_get-none_kept x s.request s.kept)
+keeps_none m o x p none = elim (antilex_total (none_kept x) x (length_none_kept x)) [
+  | inl same ↦ subst (λ y. IsTrue (list_all not y)) same (list_all_not_none_kept x)
+  | inr (inl s) ↦ absurd (p.none_before (none_kept x) (all_conflict m o (none_kept x) (length_none_kept x ∙ p.is.each_request) none) s)
+  | inr (inr s) ↦ absurd (slice_get_none_kept x s.request s.kept)
 ]
 
 -- so the preferred conflict keeps no request exactly where no configuration satisfies the model

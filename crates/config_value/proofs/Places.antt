@@ -79,16 +79,16 @@ ascends_from (n ∷ []) h = refl
 ascends_from (n ∷ m ∷ ns) h = and_from _ _ (lt-ltb n m (h 0 n m refl refl)) (ascends_from (m ∷ ns) (λ k. h (suc k)))
 
 -- at each place below n, counted from a, stands the sum of a and the place
-pub slice_get-range_with_len : (a n k : ℕ) → k < n → IsAt (range_with_len a n) k (a + k)
-slice_get-range_with_len a zero k h = absurd (omega arith)
-slice_get-range_with_len a (suc n) zero h = ap Some (sym (add-zero a))
-slice_get-range_with_len a (suc n) (suc k) h = slice_get-range_with_len (a + 1) n k (omega arith) ∙ ap Some (omega arith)
+pub slice_get_range_with_len : (a n k : ℕ) → k < n → IsAt (range_with_len a n) k (a + k)
+slice_get_range_with_len a zero k h = absurd (omega arith)
+slice_get_range_with_len a (suc n) zero h = ap Some (sym (add-zero a))
+slice_get_range_with_len a (suc n) (suc k) h = slice_get_range_with_len (a + 1) n k (omega arith) ∙ ap Some (omega arith)
 
 -- of n numbers from a on each is below the sum of a and n
-pub range_with_len-lt : (a n k j : ℕ) → IsAt (range_with_len a n) k j → j < a + n
-range_with_len-lt a zero k j e = absurd (none-some j e)
-range_with_len-lt a (suc n) zero j e = omega (arith, same_Some a j e)
-range_with_len-lt a (suc n) (suc k) j e = omega (arith, range_with_len-lt (a + 1) n k j e)
+pub range_with_len_lt : (a n k j : ℕ) → IsAt (range_with_len a n) k j → j < a + n
+range_with_len_lt a zero k j e = absurd (none-some j e)
+range_with_len_lt a (suc n) zero j e = omega (arith, same_Some a j e)
+range_with_len_lt a (suc n) (suc k) j e = omega (arith, range_with_len_lt (a + 1) n k j e)
 
 -- a number that passes the test is between the two others
 pub is_between_at : (low high n : ℕ) → IsTrue (is_between low high n) → IsBetween low high n

@@ -18,14 +18,14 @@ use Rattle.config_value.specs.Laws.{IsShaped, RanksTotally, HasOnePreferred}
 use Rattle.config_value.proofs.KeyLaws.{key_determines}
 
 -- two lists of numbers that the comparison does not tell apart are equal
-slice_cmp-int_cmp-equal : (xs ys : List ℤ) → slice_cmp int_cmp xs ys ≡ Equal → xs ≡ ys
-slice_cmp-int_cmp-equal [] [] e = refl
-slice_cmp-int_cmp-equal [] (y ∷ ys) e = absurd cc
-slice_cmp-int_cmp-equal (x ∷ xs) [] e = absurd cc
-slice_cmp-int_cmp-equal (x ∷ xs) (y ∷ ys) e =
+slice_cmp_int_cmp_equal : (xs ys : List ℤ) → slice_cmp int_cmp xs ys ≡ Equal → xs ≡ ys
+slice_cmp_int_cmp_equal [] [] e = refl
+slice_cmp_int_cmp_equal [] (y ∷ ys) e = absurd cc
+slice_cmp_int_cmp_equal (x ∷ xs) [] e = absurd cc
+slice_cmp_int_cmp_equal (x ∷ xs) (y ∷ ys) e =
     let both = parts (int_cmp x y) (slice_cmp int_cmp xs ys) e in
     let head = exact_signed x y both.0 in
-    let rest = slice_cmp-int_cmp-equal xs ys both.1 in
+    let rest = slice_cmp_int_cmp_equal xs ys both.1 in
     λ i. head i ∷ rest i
   where
     parts : (p q : Ordering) → ordering_then p q ≡ Equal → (p ≡ Equal) × (q ≡ Equal)
@@ -36,7 +36,7 @@ slice_cmp-int_cmp-equal (x ∷ xs) (y ∷ ys) e =
 -- configurations that the order does not tell apart have one key
 tied_keys : (m : Model) (o : Order) (c d : List Instance) → rank_order m o c d ≡ Equal → key c ≡ key d
 unfolding rank_order
-tied_keys m o c d e = slice_cmp-int_cmp-equal (key c) (key d) (second (slice_cmp int_cmp (rank m o c) (rank m o d)) (slice_cmp int_cmp (key c) (key d)) e)
+tied_keys m o c d e = slice_cmp_int_cmp_equal (key c) (key d) (second (slice_cmp int_cmp (rank m o c) (rank m o d)) (slice_cmp int_cmp (key c) (key d)) e)
   where
     second : (p q : Ordering) → ordering_then p q ≡ Equal → q ≡ Equal
     second Less q h = absurd cc

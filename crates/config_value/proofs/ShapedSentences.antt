@@ -109,12 +109,12 @@ has_single_part m c j = nat_le (parts_into m c j) (if j == 0 then 0 else 1)
 single_part_at : (m : Model) (c : List Instance) → IsTrue (has_single_parts m c) → (j : ℕ) → j < length c → IsTrue (has_single_part m c j)
 unfolding has_single_parts has_single_part
 single_part_at m c h j within =
-    Places.list_all_at (has_single_part m c) (instance_numbers c) h j j (Places.slice_get-range_with_len 0 (length c) j within ∙ ap Some (zero-add j))
+    Places.list_all_at (has_single_part m c) (instance_numbers c) h j j (Places.slice_get_range_with_len 0 (length c) j within ∙ ap Some (zero-add j))
 
 -- `has_single_parts` says no more than that
 single_parts_from : (m : Model) (c : List Instance) → ((j : ℕ) → j < length c → IsTrue (has_single_part m c j)) → IsTrue (has_single_parts m c)
 unfolding has_single_parts has_single_part
-single_parts_from m c h = Places.list_all_from (has_single_part m c) (instance_numbers c) (λ k j e. h j (rw (← zero-add (length c)) (Places.range_with_len-lt 0 (length c) k j e)))
+single_parts_from m c h = Places.list_all_from (has_single_part m c) (instance_numbers c) (λ k j e. h j (rw (← zero-add (length c)) (Places.range_with_len_lt 0 (length c) k j e)))
 
 -- ---- the whole
 

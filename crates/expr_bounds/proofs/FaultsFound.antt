@@ -5,7 +5,7 @@ use Rattle.std.specs.Option.{option_map_or, option_and_then}
 use Rattle.std.proofs.lemmas.Bool.{false≢true}
 use Rattle.std.proofs.lemmas.Bool.Decides.{nat_tests}
 use Rattle.std.proofs.lemmas.List.Elements.{Contains-append_left, Contains-append_right, Contains-append_cases}
-use Rattle.expr_bounds.proofs.Elements.{none-contained, contains-places, places-contained, whole-contained, contains-whole, contains-flat, flat-contained, unless-contained, contains-unless}
+use Rattle.expr_bounds.proofs.Elements.{none_contained, contains_places, places_contained, whole_contained, contains_whole, contains_flat, flat_contained, unless_contained, contains_unless}
 use Rattle.prod_model.specs.declared.model.Model.{Model}
 use Rattle.prod_model.specs.declared.expr.Expr.{Expr}
 use Rattle.prod_model.specs.declared.expr.Expr.TheViews.{out-Expr}
@@ -19,9 +19,9 @@ use Rattle.expr_bounds.specs.declared.fault.ExprFault.{ExprFault}
 use Rattle.expr_bounds.specs.declared.kind.Kind as kind
 use Rattle.expr_bounds.specs.declared.kind.Kind.TheVariants.{Deep, UnknownName, WrongKind, Wide}
 use Rattle.expr_bounds.specs.declared.standing.Standing.{Standing}
-use Rattle.expr_bounds.proofs.ArgumentLaws.{argument-index, argument-contained}
-use Rattle.expr_bounds.proofs.PartStandings.{levels_after, levels-left, no-levels, length-step, stands}
-use Rattle.prod_model.proofs.ListLaws.{list_all-at, list_all-from}
+use Rattle.expr_bounds.proofs.ArgumentLaws.{argument_index, argument_contained}
+use Rattle.expr_bounds.proofs.PartStandings.{levels_after, levels_left, no_levels, length_step, stands}
+use Rattle.prod_model.proofs.ListLaws.{list_all_at_place, list_all_from_each}
 
 -- the kind of a fault, and its path
 pub record Found (m : Model) (e : Expr) (t : ℕ) (f : ExprFault) : Type 0 where
@@ -32,84 +32,84 @@ pub record Found (m : Model) (e : Expr) (t : ℕ) (f : ExprFault) : Type 0 where
 
 -- ---- each fault is found
 
-not-same : (b c : Bool) → same_truth b c ≡ false → not (same_truth b c) ≡ true
-not-same b c differ = ap not differ
+not_same : (b c : Bool) → same_truth b c ≡ false → not (same_truth b c) ≡ true
+not_same b c differ = ap not differ
 
-all-of : (m : Model) (part : Expr) (of : ℕ)
+all_of : (m : Model) (part : Expr) (of : ℕ)
     → ((k : ℕ) (arg : Expr) → Contains (arguments (out-Expr part)) (k, arg) → IsTrue (option_map_or (λ u. is_some (bounds_at m arg u)) (type_of_arguments m (out-Expr part) (Some of)) false))
     → has_bounded_arguments m part of ≡ true
-all-of m part of each =
-    list_all-from (λ arg. option_map_or (λ u. is_some (bounds_at m arg u)) (type_of_arguments m (out-Expr part) (Some of)) false) (argument_list (out-Expr part))
-    (λ i arg found. each (first_place (out-Expr part) + i) arg (argument-contained (out-Expr part) i arg found))
+all_of m part of each =
+    list_all_from_each (λ arg. option_map_or (λ u. is_some (bounds_at m arg u)) (type_of_arguments m (out-Expr part) (Some of)) false) (argument_list (out-Expr part))
+    (λ i arg found. each (first_place (out-Expr part) + i) arg (argument_contained (out-Expr part) i arg found))
 
-pub too-deep : (levels : Option ℕ) → is_too_deep levels ≡ true → levels ≡ Some 0
-too-deep None none = absurd (false≢true none)
-too-deep (Some zero) none = refl
-too-deep (Some (suc n)) none = let e : suc n ≡ 0 = grind (arith, nat_tests) in ap (λ k. Some k) e
+pub too_deep : (levels : Option ℕ) → is_too_deep levels ≡ true → levels ≡ Some 0
+too_deep None none = absurd (false≢true none)
+too_deep (Some zero) none = refl
+too_deep (Some (suc n)) none = let e : suc n ≡ 0 = grind (arith, nat_tests) in ap (λ k. Some k) e
 
-none-of : {X : Type 0} (o : Option X) → is_none o ≡ true → o ≡ None
-none-of None none = refl
-none-of (Some x) none = absurd (false≢true none)
+none_of : {X : Type 0} (o : Option X) → is_none o ≡ true → o ≡ None
+none_of None none = refl
+none_of (Some x) none = absurd (false≢true none)
 
-same-not : (b c : Bool) → not (same_truth b c) ≡ true → same_truth b c ≡ false
-same-not b c differ = grind (arith)
+same_not : (b c : Bool) → not (same_truth b c) ≡ true → same_truth b c ≡ false
+same_not b c differ = grind (arith)
 
 module _ (m : Model) (e : Expr) (t : ℕ) where
-  find-deep : (path : List ℕ) (part : Expr) (of : Option ℕ) → IsPart m e t path part of → length path ≡ most_nesting → HasFaultAt m Deep e (whole_at t) path
-  find-deep path part of is steps =
+  find_deep : (path : List ℕ) (part : Expr) (of : Option ℕ) → IsPart m e t path part of → length path ≡ most_nesting → HasFaultAt m Deep e (whole_at t) path
+  find_deep path part of is steps =
       let s = stands m e t Deep path part of is in
-      let none : s.standing.levels ≡ Some 0 = s.levels ∙ ap levels_after steps ∙ levels-left 16 (omega arith) in
+      let none : s.standing.levels ≡ Some 0 = s.levels ∙ ap levels_after steps ∙ levels_left 16 (omega arith) in
       let There : List ℕ → Type 0 = λ p. HasFaultAt m Deep e (whole_at t) p in
-      subst There (append-nil path) (s.lifts [] (own (contains-whole (is_too_deep s.standing.levels) (ap is_too_deep none))))
+      subst There (append-nil path) (s.lifts [] (own (contains_whole (is_too_deep s.standing.levels) (ap is_too_deep none))))
 
-  find-name : (path : List ℕ) (part : Expr) (of : ℕ) → IsPart m e t path part (Some of) → (k : ℕ) → Contains (unknown_names m (out-Expr part) of) k
+  find_name : (path : List ℕ) (part : Expr) (of : ℕ) → IsPart m e t path part (Some of) → (k : ℕ) → Contains (unknown_names m (out-Expr part) of) k
       → HasFaultAt m UnknownName e (whole_at t) (path ++ k ∷ [])
-  find-name path part of is k among =
+  find_name path part of is k among =
       let s = stands m e t UnknownName path part (Some of) is in
       let Among : Option ℕ → Type 0 = λ at. Contains (places (option_map_or (unknown_names m (out-Expr part)) at [])) (k ∷ []) in
-      s.lifts (k ∷ []) (own (subst Among (sym s.at) (contains-places (unknown_names m (out-Expr part) of) k among)))
+      s.lifts (k ∷ []) (own (subst Among (sym s.at) (contains_places (unknown_names m (out-Expr part) of) k among)))
 
-  find-attribute : (path : List ℕ) (part : Expr) (of : ℕ) → IsPart m e t path part (Some of) → (k : ℕ) → Contains (wrong_attributes m (out-Expr part) of) k
+  find_attribute : (path : List ℕ) (part : Expr) (of : ℕ) → IsPart m e t path part (Some of) → (k : ℕ) → Contains (wrong_attributes m (out-Expr part) of) k
       → HasFaultAt m WrongKind e (whole_at t) (path ++ k ∷ [])
-  find-attribute path part of is k among =
+  find_attribute path part of is k among =
       let s = stands m e t WrongKind path part (Some of) is in
       let Among : Option ℕ → Type 0 = λ at. Contains (places (option_map_or (wrong_attributes m (out-Expr part)) at [])) (k ∷ []) in
       s.lifts (k ∷ []) (own (Contains-append_right (whole_if (is_wrong_kind s.standing.needs_truth (out-Expr part))) (places (option_map_or (wrong_attributes m (out-Expr part)) s.standing.at [])) (k ∷ [])
-      (subst Among (sym s.at) (contains-places (wrong_attributes m (out-Expr part) of) k among))))
+      (subst Among (sym s.at) (contains_places (wrong_attributes m (out-Expr part) of) k among))))
 
-  find-argument : (path : List ℕ) (part : Expr) (of : Option ℕ) → IsPart m e t path part of → (k : ℕ) → Contains (wrong_arguments (out-Expr part)) k
+  find_argument : (path : List ℕ) (part : Expr) (of : Option ℕ) → IsPart m e t path part of → (k : ℕ) → Contains (wrong_arguments (out-Expr part)) k
       → HasFaultAt m WrongKind e (whole_at t) (path ++ k ∷ [])
-  find-argument path part of is k among =
+  find_argument path part of is k among =
       let s = stands m e t WrongKind path part of is in
-      let found = flat-contained (λ (arg : ℕ × Expr). place_unless (same_truth (needs_truths (out-Expr part)) (is_truth_form (out-Expr arg.1))) arg.0) (arguments (out-Expr part)) k among in
+      let found = flat_contained (λ (arg : ℕ × Expr). place_unless (same_truth (needs_truths (out-Expr part)) (is_truth_form (out-Expr arg.1))) arg.0) (arguments (out-Expr part)) k among in
       let place = found.0.0 in
       let arg = found.0.1 in
-      let wrong = unless-contained (same_truth (needs_truths (out-Expr part)) (is_truth_form (out-Expr arg))) place k found.2 in
-      let at = argument-index (out-Expr part) place arg found.1 in
+      let wrong = unless_contained (same_truth (needs_truths (out-Expr part)) (is_truth_form (out-Expr arg))) place k found.2 in
+      let at = argument_index (out-Expr part) place arg found.1 in
       let below = standing_below m part s.standing in
       let here : Contains (own_faults m WrongKind arg below) [] =
       Contains-append_left (whole_if (is_wrong_kind below.needs_truth (out-Expr arg))) (places (option_map_or (wrong_attributes m (out-Expr arg)) below.at [])) []
-      (contains-whole (is_wrong_kind below.needs_truth (out-Expr arg)) (not-same (needs_truths (out-Expr part)) (is_truth_form (out-Expr arg)) wrong.0)) in
+      (contains_whole (is_wrong_kind below.needs_truth (out-Expr arg)) (not_same (needs_truths (out-Expr part)) (is_truth_form (out-Expr arg)) wrong.0)) in
       let Here : ℕ → Type 0 = λ j. HasFaultAt m WrongKind part s.standing (j ∷ []) in
       s.lifts (k ∷ []) (subst Here (sym at.2 ∙ wrong.1) (inner at.0 arg at.1 (own here)))
 
-  find-wide : (path : List ℕ) (part : Expr) (of : ℕ) → IsPart m e t path part (Some of) → bounds_at m part of ≡ None
+  find_wide : (path : List ℕ) (part : Expr) (of : ℕ) → IsPart m e t path part (Some of) → bounds_at m part of ≡ None
       → ((k : ℕ) (arg : Expr) → Contains (arguments (out-Expr part)) (k, arg) → IsTrue (option_map_or (λ u. is_some (bounds_at m arg u)) (type_of_arguments m (out-Expr part) (Some of)) false))
       → HasFaultAt m Wide e (whole_at t) path
-  find-wide path part of is none each =
+  find_wide path part of is none each =
       let s = stands m e t Wide path part (Some of) is in
       let There : List ℕ → Type 0 = λ p. HasFaultAt m Wide e (whole_at t) p in
       let unbounded : is_none (bounds_at m part of) ≡ true = ap is_none none in
-      let all = all-of m part of each in
+      let all = all_of m part of each in
       let wide : is_wide m part of ≡ true = grind (arith) in
-      subst There (append-nil path) (s.lifts [] (own (contains-whole (option_map_or (is_wide m part) s.standing.at false) (ap (λ at. option_map_or (is_wide m part) at false) s.at ∙ wide))))
+      subst There (append-nil path) (s.lifts [] (own (contains_whole (option_map_or (is_wide m part) s.standing.at false) (ap (λ at. option_map_or (is_wide m part) at false) s.at ∙ wide))))
 
   pub found : (f : ExprFault) → HasExprFault m e t f → Found m e t f
-  found f (deep path part of is at same) = record { kind = Deep; path = path; is = same; has = find-deep path part of is at }
-  found f (unknown_name path part of is k among same) = record { kind = UnknownName; path = path ++ k ∷ []; is = same; has = find-name path part of is k among }
-  found f (wrong_argument path part of is k among same) = record { kind = WrongKind; path = path ++ k ∷ []; is = same; has = find-argument path part of is k among }
-  found f (wrong_attribute path part of is k among same) = record { kind = WrongKind; path = path ++ k ∷ []; is = same; has = find-attribute path part of is k among }
-  found f (wide path part of is none each same) = record { kind = Wide; path = path; is = same; has = find-wide path part of is none each }
+  found f (deep path part of is at same) = record { kind = Deep; path = path; is = same; has = find_deep path part of is at }
+  found f (unknown_name path part of is k among same) = record { kind = UnknownName; path = path ++ k ∷ []; is = same; has = find_name path part of is k among }
+  found f (wrong_argument path part of is k among same) = record { kind = WrongKind; path = path ++ k ∷ []; is = same; has = find_argument path part of is k among }
+  found f (wrong_attribute path part of is k among same) = record { kind = WrongKind; path = path ++ k ∷ []; is = same; has = find_attribute path part of is k among }
+  found f (wide path part of is none each same) = record { kind = Wide; path = path; is = same; has = find_wide path part of is none each }
 
   -- ---- what is found is a fault
 
@@ -117,64 +117,64 @@ module _ (m : Model) (e : Expr) (t : ℕ) where
   abbrev Blames : List ℕ → Expr → Standing → Type 0
   Blames path part s = is_wrong_kind s.needs_truth (out-Expr part) ≡ true → HasExprFault m e t (fault_of WrongKind path)
 
-  wrong-name : (path : List ℕ) (part : Expr) (s : Standing) (at : Option ℕ) → s.at ≡ at → IsPart m e t path part at
+  wrong_name : (path : List ℕ) (part : Expr) (s : Standing) (at : Option ℕ) → s.at ≡ at → IsPart m e t path part at
       → (rest : List ℕ) → Contains (places (option_map_or (wrong_attributes m (out-Expr part)) s.at [])) rest → HasExprFault m e t (fault_of WrongKind (path ++ rest))
-  wrong-name path part s None same is rest among =
+  wrong_name path part s None same is rest among =
       let Among : Option ℕ → Type 0 = λ o. Contains (places (option_map_or (wrong_attributes m (out-Expr part)) o [])) rest in
-      absurd (none-contained rest (subst Among same among))
-  wrong-name path part s (Some of) same is rest among =
+      absurd (none_contained rest (subst Among same among))
+  wrong_name path part s (Some of) same is rest among =
       let Among : Option ℕ → Type 0 = λ o. Contains (places (option_map_or (wrong_attributes m (out-Expr part)) o [])) rest in
-      let here = places-contained (wrong_attributes m (out-Expr part) of) rest (subst Among same among) in
+      let here = places_contained (wrong_attributes m (out-Expr part) of) rest (subst Among same among) in
       wrong_attribute path part of is here.0 here.1 (ap (λ r. fault_of WrongKind (path ++ r)) (sym here.2))
 
-  own-fault : (k : kind.Kind) (path : List ℕ) (part : Expr) (s : Standing) (at : Option ℕ) → s.at ≡ at → IsPart m e t path part at → s.levels ≡ levels_after (length path) → Blames path part s
+  own_fault : (k : kind.Kind) (path : List ℕ) (part : Expr) (s : Standing) (at : Option ℕ) → s.at ≡ at → IsPart m e t path part at → s.levels ≡ levels_after (length path) → Blames path part s
       → (rest : List ℕ) → Contains (own_faults m k part s) rest → HasExprFault m e t (fault_of k (path ++ rest))
-  own-fault Deep path part s at same is levels blames rest among =
-      let here = whole-contained (is_too_deep s.levels) rest among in
+  own_fault Deep path part s at same is levels blames rest among =
+      let here = whole_contained (is_too_deep s.levels) rest among in
       let Fault : List ℕ → Type 0 = λ p. HasExprFault m e t (fault_of Deep p) in
       subst Fault (sym (append-nil path) ∙ ap (λ r. path ++ r) here.1)
-      (deep path part at is (no-levels (length path) (sym levels ∙ too-deep s.levels here.0)) refl)
-  own-fault UnknownName path part s None same is levels blames rest among =
+      (deep path part at is (no_levels (length path) (sym levels ∙ too_deep s.levels here.0)) refl)
+  own_fault UnknownName path part s None same is levels blames rest among =
       let Among : Option ℕ → Type 0 = λ o. Contains (places (option_map_or (unknown_names m (out-Expr part)) o [])) rest in
-      absurd (none-contained rest (subst Among same among))
-  own-fault UnknownName path part s (Some of) same is levels blames rest among =
+      absurd (none_contained rest (subst Among same among))
+  own_fault UnknownName path part s (Some of) same is levels blames rest among =
       let Among : Option ℕ → Type 0 = λ o. Contains (places (option_map_or (unknown_names m (out-Expr part)) o [])) rest in
-      let here = places-contained (unknown_names m (out-Expr part) of) rest (subst Among same among) in
+      let here = places_contained (unknown_names m (out-Expr part) of) rest (subst Among same among) in
       unknown_name path part of is here.0 here.1 (ap (λ r. fault_of UnknownName (path ++ r)) (sym here.2))
-  own-fault WrongKind path part s at same is levels blames rest among =
+  own_fault WrongKind path part s at same is levels blames rest among =
       elim (Contains-append_cases (whole_if (is_wrong_kind s.needs_truth (out-Expr part))) (places (option_map_or (wrong_attributes m (out-Expr part)) s.at [])) rest among) [
-        | inl there ↦ (let here = whole-contained (is_wrong_kind s.needs_truth (out-Expr part)) rest there in
+        | inl there ↦ (let here = whole_contained (is_wrong_kind s.needs_truth (out-Expr part)) rest there in
             let Fault : List ℕ → Type 0 = λ p. HasExprFault m e t (fault_of WrongKind p) in
             subst Fault (sym (append-nil path) ∙ ap (λ r. path ++ r) here.1) (blames here.0))
-        | inr name ↦ wrong-name path part s at same is rest name
+        | inr name ↦ wrong_name path part s at same is rest name
       ]
-  own-fault Wide path part s None same is levels blames rest among =
-      let here = whole-contained (option_map_or (is_wide m part) s.at false) rest among in
+  own_fault Wide path part s None same is levels blames rest among =
+      let here = whole_contained (option_map_or (is_wide m part) s.at false) rest among in
       absurd (false≢true (ap (λ o. option_map_or (is_wide m part) o false) (sym same) ∙ here.0))
-  own-fault Wide path part s (Some of) same is levels blames rest among =
-      let here = whole-contained (option_map_or (is_wide m part) s.at false) rest among in
+  own_fault Wide path part s (Some of) same is levels blames rest among =
+      let here = whole_contained (option_map_or (is_wide m part) s.at false) rest among in
       let wide_there : is_wide m part of ≡ true = ap (λ o. option_map_or (is_wide m part) o false) (sym same) ∙ here.0 in
       let none : is_none (bounds_at m part of) ≡ true = grind (arith) in
       let all : has_bounded_arguments m part of ≡ true = grind (arith) in
       let Fault : List ℕ → Type 0 = λ p. HasExprFault m e t (fault_of Wide p) in
       subst Fault (sym (append-nil path) ∙ ap (λ r. path ++ r) here.1)
-      (wide path part of is (none-of (bounds_at m part of) none) (λ k arg there.
-      let at = argument-index (out-Expr part) k arg there in
-      list_all-at (λ x. option_map_or (λ u. is_some (bounds_at m x u)) (type_of_arguments m (out-Expr part) (Some of)) false) (argument_list (out-Expr part)) at.0 arg all at.1) refl)
+      (wide path part of is (none_of (bounds_at m part of) none) (λ k arg there.
+      let at = argument_index (out-Expr part) k arg there in
+      list_all_at_place (λ x. option_map_or (λ u. is_some (bounds_at m x u)) (type_of_arguments m (out-Expr part) (Some of)) false) (argument_list (out-Expr part)) at.0 arg all at.1) refl)
 
   pub fault : (k : kind.Kind) (part : Expr) (s : Standing) (rest : List ℕ) → HasFaultAt m k part s rest
       → (path : List ℕ) → IsPart m e t path part s.at → s.levels ≡ levels_after (length path) → Blames path part s → HasExprFault m e t (fault_of k (path ++ rest))
-  fault k part s rest (own among) path is levels blames = own-fault k path part s s.at refl is levels blames rest among
+  fault k part s rest (own among) path is levels blames = own_fault k path part s s.at refl is levels blames rest among
   fault k part s rest (inner i arg found {path = rest'} has) path is levels blames =
       let place = first_place (out-Expr part) + i in
-      let among = argument-contained (out-Expr part) i arg found in
+      let among = argument_contained (out-Expr part) i arg found in
       let Fault : List ℕ → Type 0 = λ p. HasExprFault m e t (fault_of k p) in
       let below = standing_below m part s in
       subst Fault (append_assoc path (place ∷ []) rest')
       (fault k arg below rest' has (path ++ place ∷ []) (argument path part s.at is place arg among)
-      (ap (option_and_then levels_below) levels ∙ ap levels_after (sym (length-step path place)))
-      (λ wrong. wrong_argument path part s.at is place (contains-flat (λ (a : ℕ × Expr). place_unless (same_truth (needs_truths (out-Expr part)) (is_truth_form (out-Expr a.1))) a.0)
-      (arguments (out-Expr part)) (place, arg) place among (contains-unless (same_truth (needs_truths (out-Expr part)) (is_truth_form (out-Expr arg))) place (same-not (needs_truths (out-Expr part)) (is_truth_form (out-Expr arg)) wrong))) refl))
+      (ap (option_and_then levels_below) levels ∙ ap levels_after (sym (length_step path place)))
+      (λ wrong. wrong_argument path part s.at is place (contains_flat (λ (a : ℕ × Expr). place_unless (same_truth (needs_truths (out-Expr part)) (is_truth_form (out-Expr a.1))) a.0)
+      (arguments (out-Expr part)) (place, arg) place among (contains_unless (same_truth (needs_truths (out-Expr part)) (is_truth_form (out-Expr arg))) place (same_not (needs_truths (out-Expr part)) (is_truth_form (out-Expr arg)) wrong))) refl))
 
-  pub fault-of_whole : (k : kind.Kind) (path : List ℕ) → HasFaultAt m k e (whole_at t) path → HasExprFault m e t (fault_of k path)
-  fault-of_whole k path has = fault k e (whole_at t) path has [] whole refl (λ wrong. absurd (false≢true wrong))
+  pub fault_of_whole : (k : kind.Kind) (path : List ℕ) → HasFaultAt m k e (whole_at t) path → HasExprFault m e t (fault_of k path)
+  fault_of_whole k path has = fault k e (whole_at t) path has [] whole refl (λ wrong. absurd (false≢true wrong))

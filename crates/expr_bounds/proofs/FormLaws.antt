@@ -9,7 +9,7 @@ use Rattle.prod_model.specs.declared.expr.Expr.TheOpen.{Expr-F, Add, Sub, Times,
 use Rattle.prod_model.specs.declared.expr.Expr.TheViews.{out-Expr, roll-Expr, roll-out-Expr}
 use Rattle.prod_model.specs.declared.expr.Expr.TheFolds.{fold-roll-Expr}
 use Rattle.prod_model.specs.ExprBounds.{has_arguments}
-use Rattle.prod_model.proofs.ListLaws.{list_all-at}
+use Rattle.prod_model.proofs.ListLaws.{list_all_at_place}
 use Rattle.expr_bounds.specs.Arguments.{argument_list}
 use Rattle.expr_bounds.specs.Forms.{is_form, layer_is_form}
 
@@ -17,41 +17,41 @@ use Rattle.expr_bounds.specs.Forms.{is_form, layer_is_form}
 abbrev HasFormedArguments : List Expr → Type 0
 HasFormedArguments es = (length es ≤ 64) × (list_all is_form es ≡ true)
 
-pub all-map : (es : List Expr) → list_all (λ b. b) (map is_form es) ≡ list_all is_form es
-all-map [] = refl
-all-map (e ∷ es) = ap (λ b. is_form e && b) (all-map es)
+pub all_map : (es : List Expr) → list_all (λ b. b) (map is_form es) ≡ list_all is_form es
+all_map [] = refl
+all_map (e ∷ es) = ap (λ b. is_form e && b) (all_map es)
 
-formed-none : HasFormedArguments []
-formed-none = (omega arith, refl)
+formed_none : HasFormedArguments []
+formed_none = (omega arith, refl)
 
-formed-one : (e : Expr) → is_form e ≡ true → HasFormedArguments (e ∷ [])
-formed-one e formed = (omega arith, grind (arith))
+formed_one : (e : Expr) → is_form e ≡ true → HasFormedArguments (e ∷ [])
+formed_one e formed = (omega arith, grind (arith))
 
-formed-two : (e f : Expr) → (is_form e && is_form f) ≡ true → HasFormedArguments (e ∷ f ∷ [])
-formed-two e f formed = (omega arith, grind (arith))
+formed_two : (e f : Expr) → (is_form e && is_form f) ≡ true → HasFormedArguments (e ∷ f ∷ [])
+formed_two e f formed = (omega arith, grind (arith))
 
-formed-list : (es : List Expr) → (has_arguments (map is_form es) && list_all (λ b. b) (map is_form es)) ≡ true → HasFormedArguments es
-formed-list es formed = let all = all-map es in let count : length (map is_form es) ≡ length es = simp length-map in (grind (arith, nat_tests), grind (arith))
+formed_list : (es : List Expr) → (has_arguments (map is_form es) && list_all (λ b. b) (map is_form es)) ≡ true → HasFormedArguments es
+formed_list es formed = let all = all_map es in let count : length (map is_form es) ≡ length es = simp length-map in (grind (arith, nat_tests), grind (arith))
 
-formed-roll : (f : Expr-F Expr) → is_form (roll-Expr f) ≡ true → HasFormedArguments (argument_list f)
+formed_roll : (f : Expr-F Expr) → is_form (roll-Expr f) ≡ true → HasFormedArguments (argument_list f)
 unfolding is_form
-formed-roll (Add args) formed = formed-list args (sym (fold-roll-Expr Bool layer_is_form (Add args)) ∙ formed)
-formed-roll (Sub e f) formed = formed-two e f (sym (fold-roll-Expr Bool layer_is_form (Sub e f)) ∙ formed)
-formed-roll (Times k e) formed = formed-one e (sym (fold-roll-Expr Bool layer_is_form (Times k e)) ∙ formed)
-formed-roll (Cmp r e f) formed = formed-two e f (sym (fold-roll-Expr Bool layer_is_form (Cmp r e f)) ∙ formed)
-formed-roll (And args) formed = formed-list args (sym (fold-roll-Expr Bool layer_is_form (And args)) ∙ formed)
-formed-roll (Or args) formed = formed-list args (sym (fold-roll-Expr Bool layer_is_form (Or args)) ∙ formed)
-formed-roll (Not e) formed = formed-one e (sym (fold-roll-Expr Bool layer_is_form (Not e)) ∙ formed)
-formed-roll (If e f) formed = formed-two e f (sym (fold-roll-Expr Bool layer_is_form (If e f)) ∙ formed)
-formed-roll (All p e) formed = formed-one e (sym (fold-roll-Expr Bool layer_is_form (All p e)) ∙ formed)
-formed-roll (Any p e) formed = formed-one e (sym (fold-roll-Expr Bool layer_is_form (Any p e)) ∙ formed)
-formed-roll form formed = formed-none
+formed_roll (Add args) formed = formed_list args (sym (fold-roll-Expr Bool layer_is_form (Add args)) ∙ formed)
+formed_roll (Sub e f) formed = formed_two e f (sym (fold-roll-Expr Bool layer_is_form (Sub e f)) ∙ formed)
+formed_roll (Times k e) formed = formed_one e (sym (fold-roll-Expr Bool layer_is_form (Times k e)) ∙ formed)
+formed_roll (Cmp r e f) formed = formed_two e f (sym (fold-roll-Expr Bool layer_is_form (Cmp r e f)) ∙ formed)
+formed_roll (And args) formed = formed_list args (sym (fold-roll-Expr Bool layer_is_form (And args)) ∙ formed)
+formed_roll (Or args) formed = formed_list args (sym (fold-roll-Expr Bool layer_is_form (Or args)) ∙ formed)
+formed_roll (Not e) formed = formed_one e (sym (fold-roll-Expr Bool layer_is_form (Not e)) ∙ formed)
+formed_roll (If e f) formed = formed_two e f (sym (fold-roll-Expr Bool layer_is_form (If e f)) ∙ formed)
+formed_roll (All p e) formed = formed_one e (sym (fold-roll-Expr Bool layer_is_form (All p e)) ∙ formed)
+formed_roll (Any p e) formed = formed_one e (sym (fold-roll-Expr Bool layer_is_form (Any p e)) ∙ formed)
+formed_roll form formed = formed_none
 
-formed-arguments : (e : Expr) → IsTrue (is_form e) → HasFormedArguments (argument_list (out-Expr e))
-formed-arguments e formed = formed-roll (out-Expr e) (ap is_form (roll-out-Expr e) ∙ formed)
+formed_arguments : (e : Expr) → IsTrue (is_form e) → HasFormedArguments (argument_list (out-Expr e))
+formed_arguments e formed = formed_roll (out-Expr e) (ap is_form (roll-out-Expr e) ∙ formed)
 
-pub few-arguments : (e : Expr) → IsTrue (is_form e) → length (argument_list (out-Expr e)) ≤ 64
-few-arguments e formed = (formed-arguments e formed).0
+pub few_arguments : (e : Expr) → IsTrue (is_form e) → length (argument_list (out-Expr e)) ≤ 64
+few_arguments e formed = (formed_arguments e formed).0
 
-pub formed-argument : (e : Expr) (i : ℕ) (arg : Expr) → IsTrue (is_form e) → slice_get (argument_list (out-Expr e)) i ≡ Some arg → IsTrue (is_form arg)
-formed-argument e i arg formed found = list_all-at is_form (argument_list (out-Expr e)) i arg (formed-arguments e formed).1 found
+pub formed_argument : (e : Expr) (i : ℕ) (arg : Expr) → IsTrue (is_form e) → slice_get (argument_list (out-Expr e)) i ≡ Some arg → IsTrue (is_form arg)
+formed_argument e i arg formed found = list_all_at_place is_form (argument_list (out-Expr e)) i arg (formed_arguments e formed).1 found

@@ -10,17 +10,17 @@ use Rattle.expr_bounds.specs.Arguments.{argument_list, first_place}
 use Rattle.expr_bounds.specs.Search.{own_faults, standing_below, HasFaultAt, own, inner, IsPathBefore}
 use Rattle.expr_bounds.specs.declared.kind.Kind.{Kind}
 use Rattle.expr_bounds.specs.declared.standing.Standing.{Standing}
-use Rattle.expr_bounds.proofs.PathOrder.{not_before-same, not_before-greater}
-use Rattle.expr_bounds.proofs.OwnOrder.{own-ascend, own-before_inner}
+use Rattle.expr_bounds.proofs.PathOrder.{not_before_same, not_before_greater}
+use Rattle.expr_bounds.proofs.OwnOrder.{own_ascend, own_before_inner}
 
 -- a list without a first element has none
-none-first : {X : Type 0} (xs : List X) (x : X) → slice_get xs 0 ≡ None → ¬ Contains xs x
-none-first [] x none among = absurd (omega (arith, among.1))
-none-first (y ∷ ys) x none among = cc
+none_first : {X : Type 0} (xs : List X) (x : X) → slice_get xs 0 ≡ None → ¬ Contains xs x
+none_first [] x none among = absurd (omega (arith, among.1))
+none_first (y ∷ ys) x none among = cc
 
-first-contained : {X : Type 0} (xs : List X) (x : X) → slice_get xs 0 ≡ Some x → Contains xs x
-first-contained [] x first = cc
-first-contained (y ∷ ys) x first = (0, omega arith, cc)
+first_contained : {X : Type 0} (xs : List X) (x : X) → slice_get xs 0 ≡ Some x → Contains xs x
+first_contained [] x first = cc
+first_contained (y ∷ ys) x first = (0, omega arith, cc)
 
 order_of : (i n : ℕ) → (i < n) ⊎ ((i ≡ n) ⊎ (n < i))
 order_of zero zero = inr (inl refl)
@@ -37,47 +37,47 @@ module _ (m : Model) (kind : Kind) (e : Expr) (s : Standing) where
   abbrev pub NoneBefore : ℕ → Type 0
   NoneBefore n = (i : ℕ) (arg : Expr) → i < n → slice_get (argument_list (out-Expr e)) i ≡ Some arg → (path : List ℕ) → ¬ HasFaultAt m kind arg (standing_below m e s) path
 
-  pub finds-none : slice_get (own_faults m kind e s) 0 ≡ None → NoneBefore (length (argument_list (out-Expr e))) → (path : List ℕ) → ¬ HasFaultAt m kind e s path
-  finds-none none before path (own among) = none-first (own_faults m kind e s) path none among
-  finds-none none before path (inner i arg found {path = rest} has) =
+  pub finds_none : slice_get (own_faults m kind e s) 0 ≡ None → NoneBefore (length (argument_list (out-Expr e))) → (path : List ℕ) → ¬ HasFaultAt m kind e s path
+  finds_none none before path (own among) = none_first (own_faults m kind e s) path none among
+  finds_none none before path (inner i arg found {path = rest} has) =
       before i arg (slice_get_within (argument_list (out-Expr e)) i arg found) found rest has
 
-  own-first : (path : List ℕ) → slice_get (own_faults m kind e s) 0 ≡ Some path → (q : List ℕ) → HasFaultAt m kind e s q → ¬ IsPathBefore q path
-  own-first path first q (own among) = own-ascend m kind e s path q first among
-  own-first path first q (inner i arg found {path = rest} has) =
-      own-before_inner m kind e s i arg rest path found (first-contained (own_faults m kind e s) path first)
+  own_first : (path : List ℕ) → slice_get (own_faults m kind e s) 0 ≡ Some path → (q : List ℕ) → HasFaultAt m kind e s q → ¬ IsPathBefore q path
+  own_first path first q (own among) = own_ascend m kind e s path q first among
+  own_first path first q (inner i arg found {path = rest} has) =
+      own_before_inner m kind e s i arg rest path found (first_contained (own_faults m kind e s) path first)
 
-  pub finds-own : (path : List ℕ) → slice_get (own_faults m kind e s) 0 ≡ Some path → IsFirst (HasFaultAt m kind e s) IsPathBefore path
-  finds-own path first = record {
-    is = own (first-contained (own_faults m kind e s) path first);
-    none_before = own-first path first;
+  pub finds_own : (path : List ℕ) → slice_get (own_faults m kind e s) 0 ≡ Some path → IsFirst (HasFaultAt m kind e s) IsPathBefore path
+  finds_own path first = record {
+    is = own (first_contained (own_faults m kind e s) path first);
+    none_before = own_first path first;
   }
 
   module _ (n : ℕ) (arg : Expr) (found : slice_get (argument_list (out-Expr e)) n ≡ Some arg) (before : NoneBefore n) where
-    same-argument : (i : ℕ) (other : Expr) → i ≡ n → slice_get (argument_list (out-Expr e)) i ≡ Some other → other ≡ arg
-    same-argument i other is at = let same : Some other ≡ Some arg = sym at ∙ ap (slice_get (argument_list (out-Expr e))) is ∙ found in cc
+    same_argument : (i : ℕ) (other : Expr) → i ≡ n → slice_get (argument_list (out-Expr e)) i ≡ Some other → other ≡ arg
+    same_argument i other is at = let same : Some other ≡ Some arg = sym at ∙ ap (slice_get (argument_list (out-Expr e))) is ∙ found in cc
 
-    pub none-next : ((path : List ℕ) → ¬ HasFaultAt m kind arg (standing_below m e s) path) → NoneBefore (n + 1)
-    none-next none i other within at path has = elim (order_of i n) [
+    pub none_next : ((path : List ℕ) → ¬ HasFaultAt m kind arg (standing_below m e s) path) → NoneBefore (n + 1)
+    none_next none i other within at path has = elim (order_of i n) [
       | inl below ↦ before i other below at path has
-      | inr (inl is) ↦ (let Has : Expr → Type 0 = λ x. HasFaultAt m kind x (standing_below m e s) path in none path (subst Has (same-argument i other is at) has))
+      | inr (inl is) ↦ (let Has : Expr → Type 0 = λ x. HasFaultAt m kind x (standing_below m e s) path in none path (subst Has (same_argument i other is at) has))
       | inr (inr beyond) ↦ absurd (omega arith)
     ]
 
-    inner-first : (path : List ℕ) → slice_get (own_faults m kind e s) 0 ≡ None → IsFirst (HasFaultAt m kind arg (standing_below m e s)) IsPathBefore path
+    inner_first : (path : List ℕ) → slice_get (own_faults m kind e s) 0 ≡ None → IsFirst (HasFaultAt m kind arg (standing_below m e s)) IsPathBefore path
         → (q : List ℕ) → HasFaultAt m kind e s q → ¬ IsPathBefore q ((first_place (out-Expr e) + n) ∷ path)
-    inner-first path none first q (own among) = absurd (none-first (own_faults m kind e s) q none among)
-    inner-first path none first q (inner i other at {path = rest} has) = elim (order_of i n) [
+    inner_first path none first q (own among) = absurd (none_first (own_faults m kind e s) q none among)
+    inner_first path none first q (inner i other at {path = rest} has) = elim (order_of i n) [
       | inl below ↦ absurd (before i other below at rest has)
       | inr (inl is) ↦ (let Has : Expr → Type 0 = λ x. HasFaultAt m kind x (standing_below m e s) rest in
           let NotBefore : ℕ → Type 0 = λ k. ¬ IsPathBefore ((first_place (out-Expr e) + k) ∷ rest) ((first_place (out-Expr e) + n) ∷ path) in
-          subst NotBefore (sym is) (not_before-same (first_place (out-Expr e) + n) rest path (first.none_before rest (subst Has (same-argument i other is at) has))))
-      | inr (inr beyond) ↦ not_before-greater (first_place (out-Expr e) + i) (first_place (out-Expr e) + n) rest path (omega arith)
+          subst NotBefore (sym is) (not_before_same (first_place (out-Expr e) + n) rest path (first.none_before rest (subst Has (same_argument i other is at) has))))
+      | inr (inr beyond) ↦ not_before_greater (first_place (out-Expr e) + i) (first_place (out-Expr e) + n) rest path (omega arith)
     ]
 
-    pub finds-inner : (path : List ℕ) → slice_get (own_faults m kind e s) 0 ≡ None → IsFirst (HasFaultAt m kind arg (standing_below m e s)) IsPathBefore path
+    pub finds_inner : (path : List ℕ) → slice_get (own_faults m kind e s) 0 ≡ None → IsFirst (HasFaultAt m kind arg (standing_below m e s)) IsPathBefore path
         → IsFirst (HasFaultAt m kind e s) IsPathBefore ((first_place (out-Expr e) + n) ∷ path)
-    finds-inner path none first = record {
+    finds_inner path none first = record {
       is = inner n arg found first.is;
-      none_before = inner-first path none first;
+      none_before = inner_first path none first;
     }

@@ -19,14 +19,14 @@ use Rattle.expr_bounds.specs.Search.{own_faults, whole_if, places, is_too_deep, 
 use Rattle.expr_bounds.specs.declared.kind.Kind as kind
 use Rattle.expr_bounds.specs.declared.kind.Kind.TheVariants.{Deep, UnknownName, WrongKind, Wide}
 use Rattle.expr_bounds.specs.declared.standing.Standing.{Standing}
-use Rattle.expr_bounds.proofs.PathOrder.{not_before-whole, before-rest}
+use Rattle.expr_bounds.proofs.PathOrder.{not_before_whole, before_rest}
 
 -- ---- tests of all members
 
-pub all-contains : {X : Type 0} (p : X → Bool) (xs : List X) (x : X) → list_all p xs ≡ true → Contains xs x → p x ≡ true
-all-contains p [] x all among = absurd (omega (arith, among.1))
-all-contains p (y ∷ ys) x all (zero, within, is) = let here : p y ≡ true = grind (arith) in ap p (sym is) ∙ here
-all-contains p (y ∷ ys) x all (suc k, within, is) = all-contains p ys x (grind (arith)) (k, omega arith, is)
+pub all_contains : {X : Type 0} (p : X → Bool) (xs : List X) (x : X) → list_all p xs ≡ true → Contains xs x → p x ≡ true
+all_contains p [] x all among = absurd (omega (arith, among.1))
+all_contains p (y ∷ ys) x all (zero, within, is) = let here : p y ≡ true = grind (arith) in ap p (sym is) ∙ here
+all_contains p (y ∷ ys) x all (suc k, within, is) = all_contains p ys x (grind (arith)) (k, omega arith, is)
 
 -- ---- own faults ascend
 
@@ -42,91 +42,91 @@ not_both : (b : Bool) → not b ≡ true → ¬ IsTrue b
 not_both true fails holds = false≢true fails
 not_both false fails holds = false≢true holds
 
-first-least : (ps : List (List ℕ)) (p q : List ℕ) → first_is_least ps ≡ true → slice_get ps 0 ≡ Some p → Contains ps q → ¬ IsPathBefore q p
-first-least [] p q least first among = absurd (omega (arith, among.1))
-first-least (r ∷ ps) p q least first among =
+first_least : (ps : List (List ℕ)) (p q : List ℕ) → first_is_least ps ≡ true → slice_get ps 0 ≡ Some p → Contains ps q → ¬ IsPathBefore q p
+first_least [] p q least first among = absurd (omega (arith, among.1))
+first_least (r ∷ ps) p q least first among =
     let same : r ≡ p = cc in
-    not_both (is_lt (slice_cmp nat_cmp q p)) (ap (λ x. is_not_before x q) (sym same) ∙ all-contains (is_not_before r) (r ∷ ps) q least among)
+    not_both (is_lt (slice_cmp nat_cmp q p)) (ap (λ x. is_not_before x q) (sym same) ∙ all_contains (is_not_before r) (r ∷ ps) q least among)
 
-least-whole : (b : Bool) → first_is_least (whole_if b) ≡ true
-least-whole true = refl
-least-whole false = refl
+least_whole : (b : Bool) → first_is_least (whole_if b) ≡ true
+least_whole true = refl
+least_whole false = refl
 
-least-one : (b : Bool) → first_is_least (places (place_unless b 1)) ≡ true
-least-one true = refl
-least-one false = refl
+least_one : (b : Bool) → first_is_least (places (place_unless b 1)) ≡ true
+least_one true = refl
+least_one false = refl
 
-least-two : (b : Bool) → first_is_least (places (place_unless b 2)) ≡ true
-least-two true = refl
-least-two false = refl
+least_two : (b : Bool) → first_is_least (places (place_unless b 2)) ≡ true
+least_two true = refl
+least_two false = refl
 
-least-both : (b c : Bool) → first_is_least (places (place_unless b 1 ++ place_unless c 2)) ≡ true
-least-both true true = refl
-least-both true false = refl
-least-both false true = refl
-least-both false false = refl
+least_both : (b c : Bool) → first_is_least (places (place_unless b 1 ++ place_unless c 2)) ≡ true
+least_both true true = refl
+least_both true false = refl
+least_both false true = refl
+least_both false false = refl
 
-least-found : {X : Type 0} (o : Option X) (g : X → Bool) → first_is_least (places (place_unless (is_some o) 1 ++ option_map_or (λ q. place_unless (g q) 2) o [])) ≡ true
-least-found None g = refl
-least-found (Some x) g = least-two (g x)
+least_found : {X : Type 0} (o : Option X) (g : X → Bool) → first_is_least (places (place_unless (is_some o) 1 ++ option_map_or (λ q. place_unless (g q) 2) o [])) ≡ true
+least_found None g = refl
+least_found (Some x) g = least_two (g x)
 
-least-type : (b c : Bool) → first_is_least (places (place_unless b 1 ++ (if b then place_unless c 2 else []))) ≡ true
-least-type true c = least-two c
-least-type false c = refl
+least_type : (b c : Bool) → first_is_least (places (place_unless b 1 ++ (if b then place_unless c 2 else []))) ≡ true
+least_type true c = least_two c
+least_type false c = refl
 
-least-names : (m : Model) (f : Expr-F Expr) (t : ℕ) → first_is_least (places (unknown_names m f t)) ≡ true
-least-names m (Num n) t = refl
-least-names m (Attr a) t = least-one (is_some (attribute_of m t a))
-least-names m (Count p) t = least-one (is_some (port_of m t p))
-least-names m (CountOf p u) t = least-both (is_some (port_of m t p)) (is_type m u)
-least-names m (Sum p a) t = least-found (port_of m t p) (λ q. is_some (attribute_of m q.target a))
-least-names m (Total u a) t = least-type (is_type m u) (is_some (attribute_of m u a))
-least-names m (Number u) t = least-one (is_type m u)
-least-names m (Add args) t = refl
-least-names m (Sub e f) t = refl
-least-names m (Times k e) t = refl
-least-names m (Cmp r e f) t = refl
-least-names m (Is a w) t = least-found (attribute_of m t a) (is_known_word m w)
-least-names m (Kind u) t = least-one (is_type m u)
-least-names m (And args) t = refl
-least-names m (Or args) t = refl
-least-names m (Not e) t = refl
-least-names m (If e f) t = refl
-least-names m (All p e) t = least-one (is_some (port_of m t p))
-least-names m (Any p e) t = least-one (is_some (port_of m t p))
+least_names : (m : Model) (f : Expr-F Expr) (t : ℕ) → first_is_least (places (unknown_names m f t)) ≡ true
+least_names m (Num n) t = refl
+least_names m (Attr a) t = least_one (is_some (attribute_of m t a))
+least_names m (Count p) t = least_one (is_some (port_of m t p))
+least_names m (CountOf p u) t = least_both (is_some (port_of m t p)) (is_type m u)
+least_names m (Sum p a) t = least_found (port_of m t p) (λ q. is_some (attribute_of m q.target a))
+least_names m (Total u a) t = least_type (is_type m u) (is_some (attribute_of m u a))
+least_names m (Number u) t = least_one (is_type m u)
+least_names m (Add args) t = refl
+least_names m (Sub e f) t = refl
+least_names m (Times k e) t = refl
+least_names m (Cmp r e f) t = refl
+least_names m (Is a w) t = least_found (attribute_of m t a) (is_known_word m w)
+least_names m (Kind u) t = least_one (is_type m u)
+least_names m (And args) t = refl
+least_names m (Or args) t = refl
+least_names m (Not e) t = refl
+least_names m (If e f) t = refl
+least_names m (All p e) t = least_one (is_some (port_of m t p))
+least_names m (Any p e) t = least_one (is_some (port_of m t p))
 
-least-wrong_one : (w b : Bool) → first_is_least (whole_if w ++ places (place_unless b 1)) ≡ true
-least-wrong_one true true = refl
-least-wrong_one true false = refl
-least-wrong_one false b = least-one b
+least_wrong_one : (w b : Bool) → first_is_least (whole_if w ++ places (place_unless b 1)) ≡ true
+least_wrong_one true true = refl
+least_wrong_one true false = refl
+least_wrong_one false b = least_one b
 
-least-wrong_two : (w b : Bool) → first_is_least (whole_if w ++ places (place_unless b 2)) ≡ true
-least-wrong_two true true = refl
-least-wrong_two true false = refl
-least-wrong_two false b = least-two b
+least_wrong_two : (w b : Bool) → first_is_least (whole_if w ++ places (place_unless b 2)) ≡ true
+least_wrong_two true true = refl
+least_wrong_two true false = refl
+least_wrong_two false b = least_two b
 
-least-wrong_none : (w : Bool) → first_is_least (whole_if w ++ []) ≡ true
-least-wrong_none true = refl
-least-wrong_none false = refl
+least_wrong_none : (w : Bool) → first_is_least (whole_if w ++ []) ≡ true
+least_wrong_none true = refl
+least_wrong_none false = refl
 
-least-wrong : (m : Model) (f : Expr-F Expr) (t : ℕ) (w : Bool) → first_is_least (whole_if w ++ places (wrong_attributes m f t)) ≡ true
-least-wrong m (Attr a) t w = least-wrong_one w (option_map_or has_range (attribute_of m t a) true)
-least-wrong m (Sum p a) t w = least-wrong_two w (option_map_or has_range (attribute_of_target m t p a) true)
-least-wrong m (Total u a) t w = least-wrong_two w (option_map_or has_range (attribute_of m u a) true)
-least-wrong m (Is a x) t w = least-wrong_one w (option_map_or has_words (attribute_of m t a) true)
-least-wrong m form t w = least-wrong_none w
+least_wrong : (m : Model) (f : Expr-F Expr) (t : ℕ) (w : Bool) → first_is_least (whole_if w ++ places (wrong_attributes m f t)) ≡ true
+least_wrong m (Attr a) t w = least_wrong_one w (option_map_or has_range (attribute_of m t a) true)
+least_wrong m (Sum p a) t w = least_wrong_two w (option_map_or has_range (attribute_of_target m t p a) true)
+least_wrong m (Total u a) t w = least_wrong_two w (option_map_or has_range (attribute_of m u a) true)
+least_wrong m (Is a x) t w = least_wrong_one w (option_map_or has_words (attribute_of m t a) true)
+least_wrong m form t w = least_wrong_none w
 
-least-own_at : (m : Model) (k : kind.Kind) (e : Expr) (s : Standing) (at : Option ℕ) → s.at ≡ at → first_is_least (own_faults m k e s) ≡ true
-least-own_at m Deep e s at is = least-whole (is_too_deep s.levels)
-least-own_at m UnknownName e s None is = rw is refl
-least-own_at m UnknownName e s (Some t) is = rw is (least-names m (out-Expr e) t)
-least-own_at m WrongKind e s None is = rw is (least-wrong_none (is_wrong_kind s.needs_truth (out-Expr e)))
-least-own_at m WrongKind e s (Some t) is = rw is (least-wrong m (out-Expr e) t (is_wrong_kind s.needs_truth (out-Expr e)))
-least-own_at m Wide e s at is = least-whole (option_map_or (is_wide m e) s.at false)
+least_own_at : (m : Model) (k : kind.Kind) (e : Expr) (s : Standing) (at : Option ℕ) → s.at ≡ at → first_is_least (own_faults m k e s) ≡ true
+least_own_at m Deep e s at is = least_whole (is_too_deep s.levels)
+least_own_at m UnknownName e s None is = rw is refl
+least_own_at m UnknownName e s (Some t) is = rw is (least_names m (out-Expr e) t)
+least_own_at m WrongKind e s None is = rw is (least_wrong_none (is_wrong_kind s.needs_truth (out-Expr e)))
+least_own_at m WrongKind e s (Some t) is = rw is (least_wrong m (out-Expr e) t (is_wrong_kind s.needs_truth (out-Expr e)))
+least_own_at m Wide e s at is = least_whole (option_map_or (is_wide m e) s.at false)
 
 -- none of the own faults is before the first of them
-pub own-ascend : (m : Model) (k : kind.Kind) (e : Expr) (s : Standing) (p q : List ℕ) → slice_get (own_faults m k e s) 0 ≡ Some p → Contains (own_faults m k e s) q → ¬ IsPathBefore q p
-own-ascend m k e s p q first among = first-least (own_faults m k e s) p q (least-own_at m k e s s.at refl) first among
+pub own_ascend : (m : Model) (k : kind.Kind) (e : Expr) (s : Standing) (p q : List ℕ) → slice_get (own_faults m k e s) 0 ≡ Some p → Contains (own_faults m k e s) q → ¬ IsPathBefore q p
+own_ascend m k e s p q first among = first_least (own_faults m k e s) p q (least_own_at m k e s s.at refl) first among
 
 -- ---- own faults come before those of arguments
 
@@ -136,58 +136,58 @@ is_early place [] = true
 is_early place (k ∷ []) = nat_le k place
 is_early place (k ∷ j ∷ path) = false
 
-early-whole : (place : ℕ) (b : Bool) → list_all (is_early place) (whole_if b) ≡ true
-early-whole place true = refl
-early-whole place false = refl
+early_whole : (place : ℕ) (b : Bool) → list_all (is_early place) (whole_if b) ≡ true
+early_whole place true = refl
+early_whole place false = refl
 
-early-one : (b : Bool) → list_all (is_early 2) (places (place_unless b 1)) ≡ true
-early-one true = refl
-early-one false = refl
+early_one : (b : Bool) → list_all (is_early 2) (places (place_unless b 1)) ≡ true
+early_one true = refl
+early_one false = refl
 
-early-names : (m : Model) (f : Expr-F Expr) (t i : ℕ) (arg : Expr) → slice_get (argument_list f) i ≡ Some arg → list_all (is_early (first_place f)) (places (unknown_names m f t)) ≡ true
-early-names m (Num n) t i arg found = cc
-early-names m (Attr a) t i arg found = cc
-early-names m (Count p) t i arg found = cc
-early-names m (CountOf p u) t i arg found = cc
-early-names m (Sum p a) t i arg found = cc
-early-names m (Total u a) t i arg found = cc
-early-names m (Number u) t i arg found = cc
-early-names m (Is a w) t i arg found = cc
-early-names m (Kind u) t i arg found = cc
-early-names m (All p e) t i arg found = early-one (is_some (port_of m t p))
-early-names m (Any p e) t i arg found = early-one (is_some (port_of m t p))
-early-names m form t i arg found = refl
+early_names : (m : Model) (f : Expr-F Expr) (t i : ℕ) (arg : Expr) → slice_get (argument_list f) i ≡ Some arg → list_all (is_early (first_place f)) (places (unknown_names m f t)) ≡ true
+early_names m (Num n) t i arg found = cc
+early_names m (Attr a) t i arg found = cc
+early_names m (Count p) t i arg found = cc
+early_names m (CountOf p u) t i arg found = cc
+early_names m (Sum p a) t i arg found = cc
+early_names m (Total u a) t i arg found = cc
+early_names m (Number u) t i arg found = cc
+early_names m (Is a w) t i arg found = cc
+early_names m (Kind u) t i arg found = cc
+early_names m (All p e) t i arg found = early_one (is_some (port_of m t p))
+early_names m (Any p e) t i arg found = early_one (is_some (port_of m t p))
+early_names m form t i arg found = refl
 
-early-wrong_none : (place : ℕ) (w : Bool) → list_all (is_early place) (whole_if w ++ []) ≡ true
-early-wrong_none place true = refl
-early-wrong_none place false = refl
+early_wrong_none : (place : ℕ) (w : Bool) → list_all (is_early place) (whole_if w ++ []) ≡ true
+early_wrong_none place true = refl
+early_wrong_none place false = refl
 
-early-wrong : (m : Model) (f : Expr-F Expr) (t : ℕ) (w : Bool) (i : ℕ) (arg : Expr) → slice_get (argument_list f) i ≡ Some arg
+early_wrong : (m : Model) (f : Expr-F Expr) (t : ℕ) (w : Bool) (i : ℕ) (arg : Expr) → slice_get (argument_list f) i ≡ Some arg
     → list_all (is_early (first_place f)) (whole_if w ++ places (wrong_attributes m f t)) ≡ true
-early-wrong m (Attr a) t w i arg found = cc
-early-wrong m (Sum p a) t w i arg found = cc
-early-wrong m (Total u a) t w i arg found = cc
-early-wrong m (Is a x) t w i arg found = cc
-early-wrong m form t w i arg found = early-wrong_none (first_place form) w
+early_wrong m (Attr a) t w i arg found = cc
+early_wrong m (Sum p a) t w i arg found = cc
+early_wrong m (Total u a) t w i arg found = cc
+early_wrong m (Is a x) t w i arg found = cc
+early_wrong m form t w i arg found = early_wrong_none (first_place form) w
 
-early-own : (m : Model) (k : kind.Kind) (e : Expr) (s : Standing) (at : Option ℕ) → s.at ≡ at → (i : ℕ) (arg : Expr) → slice_get (argument_list (out-Expr e)) i ≡ Some arg
+early_own : (m : Model) (k : kind.Kind) (e : Expr) (s : Standing) (at : Option ℕ) → s.at ≡ at → (i : ℕ) (arg : Expr) → slice_get (argument_list (out-Expr e)) i ≡ Some arg
     → list_all (is_early (first_place (out-Expr e))) (own_faults m k e s) ≡ true
-early-own m Deep e s at is i arg found = early-whole (first_place (out-Expr e)) (is_too_deep s.levels)
-early-own m UnknownName e s None is i arg found = rw is refl
-early-own m UnknownName e s (Some t) is i arg found = rw is (early-names m (out-Expr e) t i arg found)
-early-own m WrongKind e s None is i arg found = rw is (early-wrong_none (first_place (out-Expr e)) (is_wrong_kind s.needs_truth (out-Expr e)))
-early-own m WrongKind e s (Some t) is i arg found = rw is (early-wrong m (out-Expr e) t (is_wrong_kind s.needs_truth (out-Expr e)) i arg found)
-early-own m Wide e s at is i arg found = early-whole (first_place (out-Expr e)) (option_map_or (is_wide m e) s.at false)
+early_own m Deep e s at is i arg found = early_whole (first_place (out-Expr e)) (is_too_deep s.levels)
+early_own m UnknownName e s None is i arg found = rw is refl
+early_own m UnknownName e s (Some t) is i arg found = rw is (early_names m (out-Expr e) t i arg found)
+early_own m WrongKind e s None is i arg found = rw is (early_wrong_none (first_place (out-Expr e)) (is_wrong_kind s.needs_truth (out-Expr e)))
+early_own m WrongKind e s (Some t) is i arg found = rw is (early_wrong m (out-Expr e) t (is_wrong_kind s.needs_truth (out-Expr e)) i arg found)
+early_own m Wide e s at is i arg found = early_whole (first_place (out-Expr e)) (option_map_or (is_wide m e) s.at false)
 
-not_before-early : (place j : ℕ) (path q : List ℕ) → is_early place q ≡ true → place ≤ j → ¬ IsPathBefore (j ∷ path) q
-not_before-early place j path [] early beyond = not_before-whole (j ∷ path)
-not_before-early place j path (k ∷ []) early beyond =
-    λ before. not_before-whole path (before-rest j k path [] (grind (arith, nat_tests)) before)
-not_before-early place j path (k ∷ l ∷ q) early beyond = absurd (false≢true early)
+not_before_early : (place j : ℕ) (path q : List ℕ) → is_early place q ≡ true → place ≤ j → ¬ IsPathBefore (j ∷ path) q
+not_before_early place j path [] early beyond = not_before_whole (j ∷ path)
+not_before_early place j path (k ∷ []) early beyond =
+    λ before. not_before_whole path (before_rest j k path [] (grind (arith, nat_tests)) before)
+not_before_early place j path (k ∷ l ∷ q) early beyond = absurd (false≢true early)
 
 -- no fault of an argument is before one of the part's own
-pub own-before_inner : (m : Model) (k : kind.Kind) (e : Expr) (s : Standing) (i : ℕ) (arg : Expr) (path q : List ℕ) → slice_get (argument_list (out-Expr e)) i ≡ Some arg
+pub own_before_inner : (m : Model) (k : kind.Kind) (e : Expr) (s : Standing) (i : ℕ) (arg : Expr) (path q : List ℕ) → slice_get (argument_list (out-Expr e)) i ≡ Some arg
     → Contains (own_faults m k e s) q → ¬ IsPathBefore ((first_place (out-Expr e) + i) ∷ path) q
-own-before_inner m k e s i arg path q found among =
-    not_before-early (first_place (out-Expr e)) (first_place (out-Expr e) + i) path q
-    (all-contains (is_early (first_place (out-Expr e))) (own_faults m k e s) q (early-own m k e s s.at refl i arg found) among) (omega arith)
+own_before_inner m k e s i arg path q found among =
+    not_before_early (first_place (out-Expr e)) (first_place (out-Expr e) + i) path q
+    (all_contains (is_early (first_place (out-Expr e))) (own_faults m k e s) q (early_own m k e s s.at refl i arg found) among) (omega arith)

@@ -9,36 +9,36 @@ use Rattle.expr_bounds.specs.Parts.{IsPart, whole, argument, type_of_arguments}
 use Rattle.expr_bounds.specs.Search.{levels_below, whole_at, standing_below, HasFaultAt, inner}
 use Rattle.expr_bounds.specs.declared.kind.Kind as kind
 use Rattle.expr_bounds.specs.declared.standing.Standing.{Standing}
-use Rattle.expr_bounds.proofs.ArgumentLaws.{argument-index}
+use Rattle.expr_bounds.proofs.ArgumentLaws.{argument_index}
 
 -- the levels left after so many steps
 abbrev pub levels_after : ℕ → Option ℕ
 levels_after zero = Some most_nesting
 levels_after (suc n) = option_and_then levels_below (levels_after n)
 
-pub levels-left : (n : ℕ) → n ≤ 16 → levels_after n ≡ Some (16 - n)
-levels-left zero few = refl
-levels-left (suc n) few =
+pub levels_left : (n : ℕ) → n ≤ 16 → levels_after n ≡ Some (16 - n)
+levels_left zero few = refl
+levels_left (suc n) few =
     let more : 16 - n ≡ suc (16 - suc n) = omega arith in
-    ap (option_and_then levels_below) (levels-left n (omega arith) ∙ ap (λ k. Some k) more)
+    ap (option_and_then levels_below) (levels_left n (omega arith) ∙ ap (λ k. Some k) more)
 
-levels-gone : (k : ℕ) → levels_after (17 + k) ≡ None
-levels-gone zero = refl
-levels-gone (suc k) = let e : 17 + suc k ≡ suc (17 + k) = omega arith in ap levels_after e ∙ ap (option_and_then levels_below) (levels-gone k)
+levels_gone : (k : ℕ) → levels_after (17 + k) ≡ None
+levels_gone zero = refl
+levels_gone (suc k) = let e : 17 + suc k ≡ suc (17 + k) = omega arith in ap levels_after e ∙ ap (option_and_then levels_below) (levels_gone k)
 
 order : (n k : ℕ) → (n ≤ k) ⊎ (k < n)
 order zero k = inl (omega arith)
 order (suc n) zero = inr (omega arith)
 order (suc n) (suc k) = elim (order n k) [ inl few ↦ inl (omega arith) | inr many ↦ inr (omega arith) ]
 
-pub no-levels : (n : ℕ) → levels_after n ≡ Some 0 → n ≡ 16
-no-levels n none = elim (order n 16) [
-  | inl few ↦ (let left = sym (levels-left n few) ∙ none in let e : 16 - n ≡ 0 = ap (λ o. unwrap_or o 0) left in omega arith)
-  | inr many ↦ (let k = n - 17 in let e : n ≡ 17 + (n - 17) = omega arith in let gone = sym none ∙ ap levels_after e ∙ levels-gone (n - 17) in cc)
+pub no_levels : (n : ℕ) → levels_after n ≡ Some 0 → n ≡ 16
+no_levels n none = elim (order n 16) [
+  | inl few ↦ (let left = sym (levels_left n few) ∙ none in let e : 16 - n ≡ 0 = ap (λ o. unwrap_or o 0) left in omega arith)
+  | inr many ↦ (let k = n - 17 in let e : n ≡ 17 + (n - 17) = omega arith in let gone = sym none ∙ ap levels_after e ∙ levels_gone (n - 17) in cc)
 ]
 
-pub length-step : (path : List ℕ) (k : ℕ) → length (path ++ k ∷ []) ≡ suc (length path)
-length-step path k = omega (arith, length-append path (k ∷ []))
+pub length_step : (path : List ℕ) (k : ℕ) → length (path ++ k ∷ []) ≡ suc (length path)
+length_step path k = omega (arith, length-append path (k ∷ []))
 
 module _ (m : Model) (e : Expr) (t : ℕ) where
   -- how a part stands, so that its faults are faults of the whole
@@ -52,10 +52,10 @@ module _ (m : Model) (e : Expr) (t : ℕ) where
   stands kind path part of whole = record { standing = whole_at t; levels = refl; at = refl; lifts = λ rest has. has }
   stands kind path part of (argument path' part' of' is k arg among) =
       let above = stands kind path' part' of' is in
-      let at = argument-index (out-Expr part') k arg among in
+      let at = argument_index (out-Expr part') k arg among in
       record {
         standing = standing_below m part' above.standing;
-        levels = ap (option_and_then levels_below) above.levels ∙ ap levels_after (sym (length-step path' k));
+        levels = ap (option_and_then levels_below) above.levels ∙ ap levels_after (sym (length_step path' k));
         at = ap (type_of_arguments m (out-Expr part')) above.at;
         lifts = λ rest has.
             let Here : ℕ → Type 0 = λ j. HasFaultAt m kind part' above.standing (j ∷ rest) in

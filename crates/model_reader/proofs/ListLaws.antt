@@ -12,19 +12,19 @@ use Rattle.model_reader.specs.Files.{all_of, ◌>>=◌}
 pub record IsReadUpTo {A : Type 0} (reading : Data → Option A) (list : List Value) (i : ℕ) (done : List A) : Type 0 where
   pub is : all_of reading (map view list) ≡ option_map (λ more. done ++ more) (all_of reading (map view (drop i list)))
 
-option_map-id : {A : Type 0} (o : Option (List A)) → o ≡ option_map (λ more. [] ++ more) o
-option_map-id None = refl
-option_map-id (Some more) = refl
+option_map_id : {A : Type 0} (o : Option (List A)) → o ≡ option_map (λ more. [] ++ more) o
+option_map_id None = refl
+option_map_id (Some more) = refl
 
-option_map-snoc : {A : Type 0} (done : List A) (a : A) (o : Option (List A)) →
+option_map_snoc : {A : Type 0} (done : List A) (a : A) (o : Option (List A)) →
     option_map (λ more. done ++ more) (option_map (λ more. a ∷ more) o) ≡ option_map (λ more. (done ++ a ∷ []) ++ more) o
-option_map-snoc done a None = refl
-option_map-snoc done a (Some more) = ap Some (sym (append_assoc done (a ∷ []) more))
+option_map_snoc done a None = refl
+option_map_snoc done a (Some more) = ap Some (sym (append_assoc done (a ∷ []) more))
 
 module _ {A : Type 0} (reading : Data → Option A) (list : List Value) where
   -- before the first value
   pub start : IsReadUpTo reading list 0 []
-  start = record { is = option_map-id (all_of reading (map view list)) }
+  start = record { is = option_map_id (all_of reading (map view list)) }
 
   next_values : (i : ℕ) (v : Value) → i < length list → v ≡ get_or list i v → drop i list ≡ v ∷ drop (i + 1) list
   next_values i v within read = drop-cons list i v within ∙ rw (add-one i) (ap (λ w. w ∷ drop (suc i) list) (sym read))
@@ -35,7 +35,7 @@ module _ {A : Type 0} (reading : Data → Option A) (list : List Value) where
   next i v done a up within read is_a = record {
     is = up.is ∙ ap (λ l. option_map (λ more. done ++ more) (all_of reading (map view l))) (next_values i v within read)
         ∙ ap (λ o. option_map (λ more. done ++ more) (o >>= λ x. option_map (λ more. x ∷ more) (all_of reading (map view (drop (i + 1) list))))) is_a
-        ∙ option_map-snoc done a (all_of reading (map view (drop (i + 1) list)));
+        ∙ option_map_snoc done a (all_of reading (map view (drop (i + 1) list)));
   }
 
   -- where one value is read as nothing

@@ -18,7 +18,7 @@ use Rattle.prod_model.specs.Valid.{IsValid, has_room, has_ends, is_pair, has_dis
 use Rattle.model_reader.specs.Plain.{is_range, is_plain, attributes_declared, is_plain_type, has_one}
 use Rattle.model_reader.specs.PlainTable.{row_from}
 use Rattle.model_reader.proofs.StepLaws.{not_false, first_holds, second_holds, list_all_both}
-use Rattle.model_reader.proofs.RowLaws.{length-row_from, attributes_of-alone}
+use Rattle.model_reader.proofs.RowLaws.{length_row_from, attributes_of_alone}
 use Rattle.model_reader.proofs.SideLaws.{is_sound}
 use Rattle.model_reader.proofs.PlainParts.{type_of}
 
@@ -66,13 +66,13 @@ module _ (m : Model) where
   ranged_attributes h = let p = types_of_plain h in rw (declared_by p) p.ranged
 
   -- its attributes are a row under the ids from 0 on
-  pub attributes_at-plain : is_plain m ≡ true → attributes_at m 0 ≡ row_from 0 (attributes_declared m)
-  attributes_at-plain h = let p = types_of_plain h in rw p.is (attributes_of-alone p.name p.attributes)
+  pub attributes_at_plain : is_plain m ≡ true → attributes_at m 0 ≡ row_from 0 (attributes_declared m)
+  attributes_at_plain h = let p = types_of_plain h in rw p.is (attributes_of_alone p.name p.attributes)
 
   -- its tables are that row alone
-  pub tables_of-plain : is_plain m ≡ true → tables_of m ≡ record { attributes = row_from 0 (attributes_declared m) ∷ []; ports = [] ∷ [] }
+  pub tables_of_plain : is_plain m ≡ true → tables_of m ≡ record { attributes = row_from 0 (attributes_declared m) ∷ []; ports = [] ∷ [] }
   unfolding tables_of ports_of
-  tables_of-plain h = let p = types_of_plain h in rw (p.is, attributes_of-alone p.name p.attributes) refl
+  tables_of_plain h = let p = types_of_plain h in rw (p.is, attributes_of_alone p.name p.attributes) refl
 
   -- the model, with its type written out
   module _ (p : IsOnePlain m.types) (valid : IsValid m) where
@@ -90,7 +90,7 @@ module _ (m : Model) where
         let enough = nat_le (length row) 32 in
         let ports = nat_le (length (ports_at written 0)) 16 in
         let few = first_holds enough ports (first_holds (enough && ports) true valid_written.declared.taxonomy.room) in
-        let long = ap length (attributes_of-alone p.name p.attributes) ∙ length-row_from 0 p.attributes in
+        let long = ap length (attributes_of_alone p.name p.attributes) ∙ length_row_from 0 p.attributes in
         grind (arith, nat_tests, ap (λ n. nat_le n 32) (sym long) ∙ few)
 
     distinct_written : is_distinct (map (λ a. a.name) p.attributes) ≡ true
@@ -131,4 +131,4 @@ module _ (m : Model) (plain : is_plain m ≡ true) (valid : IsValid m) where
   pub root_is_first : m.root ≡ 0
   root_is_first = root_written m (types_of_plain m plain) valid
 
-pub ruleset of_plain = (few_attributes, ranged_attributes, tables_of-plain)
+pub ruleset of_plain = (few_attributes, ranged_attributes, tables_of_plain)

@@ -18,7 +18,7 @@ use Rattle.model_reader.specs.Files.{◌>>=◌, has_only, text_at, whole_number,
 use Rattle.model_reader.specs.PlainFile.{plain_type, plain_rules, instances_of, plain_model}
 use Rattle.model_reader.proofs.StepLaws.{second_holds, some_same, provided_test, provided_value, found_then, list_all_by}
 use Rattle.model_reader.proofs.SideLaws.{is_sound}
-use Rattle.model_reader.proofs.RowLaws.{attributes_of-alone}
+use Rattle.model_reader.proofs.RowLaws.{attributes_of_alone}
 use Rattle.model_reader.proofs.PlainParts.{is_right, type_of, ArePlainParts, plain_type_of, HasPlainRules, plain_rules_of}
 
 -- a model of one type
@@ -53,12 +53,12 @@ sound_of_right attributes = list_all_by is_right (λ a. is_sound a.domain) (λ a
 
 module _ (name : List ℕ) (attributes : List AttrDecl) (instances : ℕ) (rules : List Rule) where
   -- its attributes are a row under the ids from 0 on
-  pub attributes_at-alone : attributes_at (alone name attributes instances rules) 0 ≡ row_from 0 attributes
-  attributes_at-alone = attributes_of-alone name attributes
+  pub attributes_at_alone : attributes_at (alone name attributes instances rules) 0 ≡ row_from 0 attributes
+  attributes_at_alone = attributes_of_alone name attributes
 
-  pub tables_of-alone : tables_of (alone name attributes instances rules) ≡ record { attributes = row_from 0 attributes ∷ []; ports = [] ∷ [] }
+  pub tables_of_alone : tables_of (alone name attributes instances rules) ≡ record { attributes = row_from 0 attributes ∷ []; ports = [] ∷ [] }
   unfolding tables_of ports_of
-  tables_of-alone = rw attributes_at-alone refl
+  tables_of_alone = rw attributes_at_alone refl
 
 pub plain_model_of : (d : Data) (m : Model) → plain_model d ≡ Some m → IsPlainModel m
 unfolding plain_model
@@ -84,6 +84,6 @@ plain_model_of d m h =
       parts = plain.parts;
       some_instances = instances_in_limits number.value instances.value number.then_;
       has_rules = plain_rules_of (alone plain.name plain.attributes instances.value rules.value) (type_of plain.name plain.attributes)
-          (attributes_at-alone plain.name plain.attributes instances.value rules.value) (sound_of_right plain.attributes plain.parts.right) d rules.value
+          (attributes_at_alone plain.name plain.attributes instances.value rules.value) (sound_of_right plain.attributes plain.parts.right) d rules.value
           (rw (← plain.is) rules.found);
     }

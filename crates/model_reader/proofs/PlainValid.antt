@@ -21,9 +21,9 @@ use Rattle.model_reader.specs.Plain.{is_range, is_plain, is_plain_comparison}
 use Rattle.model_reader.specs.PlainFile.{plain_model}
 use Rattle.model_reader.proofs.StepLaws.{not_false, first_holds, second_holds, both_hold, list_all_by, list_all_true}
 use Rattle.model_reader.proofs.SideLaws.{is_sound}
-use Rattle.model_reader.proofs.RowLaws.{length-row_from}
+use Rattle.model_reader.proofs.RowLaws.{length_row_from}
 use Rattle.model_reader.proofs.PlainParts.{is_right, is_right_rule, ArePlainParts, HasPlainRules}
-use Rattle.model_reader.proofs.PlainModelLaws.{alone, attributes_at-alone, plain_model_of}
+use Rattle.model_reader.proofs.PlainModelLaws.{alone, attributes_at_alone, plain_model_of}
 
 -- ---- each attribute
 
@@ -115,7 +115,7 @@ module _ (name : List ℕ) (attributes : List AttrDecl) (instances : ℕ) (rules
 
   room : has_room (alone name attributes instances rules) ≡ true
   unfolding has_room ports_of
-  room = rw (attributes_at-alone name attributes instances rules, length-row_from 0 attributes, parts.few) refl
+  room = rw (attributes_at_alone name attributes instances rules, length_row_from 0 attributes, parts.few) refl
 
   known_parents : has_known_parents (alone name attributes instances rules) ≡ true
   unfolding has_known_parents
@@ -149,12 +149,12 @@ module _ (name : List ℕ) (attributes : List AttrDecl) (instances : ℕ) (rules
   is_plain_alone = rw (all_ranged attributes parts.right, all_rules (λ r. is_plain_comparison (out-Expr r.holds)) (rule_plain (alone name attributes instances rules))) refl
 
 module _ (d : Data) (m : Model) (h : plain_model d ≡ Some m) where
-  pub plain_model-IsValid : IsValid m
-  plain_model-IsValid =
+  pub plain_model_IsValid : IsValid m
+  plain_model_IsValid =
       let p = plain_model_of d m h in
       rw p.is (is_valid p.name p.attributes p.instances p.rules p.parts p.some_instances p.has_rules)
 
-  pub plain_model-is_plain : is_plain m ≡ true
-  plain_model-is_plain =
+  pub plain_model_is_plain : is_plain m ≡ true
+  plain_model_is_plain =
       let p = plain_model_of d m h in
       rw p.is (is_plain_alone p.name p.attributes p.instances p.rules p.parts p.some_instances p.has_rules)

@@ -12,40 +12,40 @@ use Rattle.prod_model.specs.Taxonomy.{made_attribute, new_entries, attributes_of
 use Rattle.model_reader.specs.PlainTable.{row_from}
 use Rattle.model_reader.proofs.StepLaws.{first_holds, second_holds}
 
-filter-true : {A : Type 0} (xs : List A) → filter (λ x. true) xs ≡ xs
-filter-true [] = refl
-filter-true (x ∷ xs) = ap (λ more. x ∷ more) (filter-true xs)
+filter_true : {A : Type 0} (xs : List A) → filter (λ x. true) xs ≡ xs
+filter_true [] = refl
+filter_true (x ∷ xs) = ap (λ more. x ∷ more) (filter_true xs)
 
-what-new_entries : (id : ℕ) (ds : List AttrDecl) →
+what_new_entries : (id : ℕ) (ds : List AttrDecl) →
     map (λ e. e.what) (new_entries (λ (t : TypeDecl). t.attributes) (λ d. d.name) made_attribute (λ d (a : AttrAt). made_attribute a.id d) id ds) ≡ row_from id ds
-what-new_entries id [] = refl
-what-new_entries id (d ∷ ds) = ap (λ more. made_attribute id d ∷ more) (what-new_entries (id + 1) ds)
+what_new_entries id [] = refl
+what_new_entries id (d ∷ ds) = ap (λ more. made_attribute id d ∷ more) (what_new_entries (id + 1) ds)
 
-pub length-row_from : (id : ℕ) (ds : List AttrDecl) → length (row_from id ds) ≡ length ds
-length-row_from id [] = refl
-length-row_from id (d ∷ ds) = ap suc (length-row_from (id + 1) ds)
+pub length_row_from : (id : ℕ) (ds : List AttrDecl) → length (row_from id ds) ≡ length ds
+length_row_from id [] = refl
+length_row_from id (d ∷ ds) = ap suc (length_row_from (id + 1) ds)
 
-row_from-snoc : (id : ℕ) (ds : List AttrDecl) (d : AttrDecl) → row_from id (ds ++ d ∷ []) ≡ row_from id ds ++ made_attribute (id + length ds) d ∷ []
-row_from-snoc id [] d = ap (λ k. made_attribute k d ∷ []) (omega arith)
-row_from-snoc id (e ∷ ds) d = ap (λ more. made_attribute id e ∷ more) (row_from-snoc (id + 1) ds d
+row_from_snoc : (id : ℕ) (ds : List AttrDecl) (d : AttrDecl) → row_from id (ds ++ d ∷ []) ≡ row_from id ds ++ made_attribute (id + length ds) d ∷ []
+row_from_snoc id [] d = ap (λ k. made_attribute k d ∷ []) (omega arith)
+row_from_snoc id (e ∷ ds) d = ap (λ more. made_attribute id e ∷ more) (row_from_snoc (id + 1) ds d
     ∙ ap (λ k. row_from (id + 1) ds ++ made_attribute k d ∷ []) (omega arith))
 
 -- after one attribute more, whose id is the length of the row
-pub row_from-next : (all : List AttrDecl) (i : ℕ) (row : List AttrAt) (d : AttrDecl) (a : AttrAt) → row ≡ row_from 0 (take i all) → i < length all → d ≡ get_or all i d →
+pub row_from_next : (all : List AttrDecl) (i : ℕ) (row : List AttrAt) (d : AttrDecl) (a : AttrAt) → row ≡ row_from 0 (take i all) → i < length all → d ≡ get_or all i d →
     a ≡ made_attribute (length row) d → row ++ a ∷ [] ≡ row_from 0 (take (i + 1) all)
-row_from-next all i row d a so_far within read made =
+row_from_next all i row d a so_far within read made =
     rw made (ap (λ r. r ++ made_attribute (length row) d ∷ []) so_far
-    ∙ ap (λ k. row_from 0 (take i all) ++ made_attribute k d ∷ []) (ap length so_far ∙ length-row_from 0 (take i all) ∙ sym (zero-add (length (take i all))))
-    ∙ sym (row_from-snoc 0 (take i all) d)
+    ∙ ap (λ k. row_from 0 (take i all) ++ made_attribute k d ∷ []) (ap length so_far ∙ length_row_from 0 (take i all) ∙ sym (zero-add (length (take i all))))
+    ∙ sym (row_from_snoc 0 (take i all) d)
     ∙ ap (row_from 0) (ap (λ e. take i all ++ e ∷ []) read ∙ sym (take_at_read all i d within).1))
 
 -- a type alone: what it declares, in order
-pub attributes_of-alone : (name : List ℕ) (attributes : List AttrDecl) →
+pub attributes_of_alone : (name : List ℕ) (attributes : List AttrDecl) →
     map (λ a. a.what) (attributes_of (record { name = name; parent = None; attributes = attributes; ports = [] } ∷ []) 0) ≡ row_from 0 attributes
 unfolding attributes_of
-attributes_of-alone name attributes =
-    ap (λ ds. map (λ e. e.what) (new_entries (λ (t : TypeDecl). t.attributes) (λ d. d.name) made_attribute (λ d (a : AttrAt). made_attribute a.id d) 0 ds)) (filter-true attributes)
-    ∙ what-new_entries 0 attributes
+attributes_of_alone name attributes =
+    ap (λ ds. map (λ e. e.what) (new_entries (λ (t : TypeDecl). t.attributes) (λ d. d.name) made_attribute (λ d (a : AttrAt). made_attribute a.id d) 0 ds)) (filter_true attributes)
+    ∙ what_new_entries 0 attributes
 
 -- under the id there is an attribute, and its domain passes the test
 pub record IsFoundIn (row : List AttrAt) (id : ℕ) (pass : Domain → Bool) : Type 0 where

@@ -37,29 +37,29 @@ use Rattle.model_reader.proofs.RowLaws.{found_in}
 -- ---- the laws of the three forms
 
 module _ (m : Model) (t : ℕ) where
-  bounds_at-Num : (n : ℤ) → bounds_at m (v.Num n) t ≡ bounded n n
+  bounds_at_Num : (n : ℤ) → bounds_at m (v.Num n) t ≡ bounded n n
   unfolding bounds_at
-  bounds_at-Num n = ap (λ (e : Expr). bounds_at m e t) (sym (v.rolls-Num n)) ∙ ap (λ (f : ℕ → Option Bounds). f t) (fold-roll-Expr (ℕ → Option Bounds) (layer_bounds m) (Num n))
+  bounds_at_Num n = ap (λ (e : Expr). bounds_at m e t) (sym (v.rolls-Num n)) ∙ ap (λ (f : ℕ → Option Bounds). f t) (fold-roll-Expr (ℕ → Option Bounds) (layer_bounds m) (Num n))
 
-  bounds_at-Attr : (a : ℕ) → bounds_at m (v.Attr a) t ≡ option_and_then (of_range bounded) (attribute_of m t a)
+  bounds_at_Attr : (a : ℕ) → bounds_at m (v.Attr a) t ≡ option_and_then (of_range bounded) (attribute_of m t a)
   unfolding bounds_at
-  bounds_at-Attr a = ap (λ (e : Expr). bounds_at m e t) (sym (v.rolls-Attr a)) ∙ ap (λ (f : ℕ → Option Bounds). f t) (fold-roll-Expr (ℕ → Option Bounds) (layer_bounds m) (Attr a))
+  bounds_at_Attr a = ap (λ (e : Expr). bounds_at m e t) (sym (v.rolls-Attr a)) ∙ ap (λ (f : ℕ → Option Bounds). f t) (fold-roll-Expr (ℕ → Option Bounds) (layer_bounds m) (Attr a))
 
-  bounds_at-Cmp : (r : Relation) (x y : Expr) → bounds_at m (v.Cmp r x y) t ≡ comparison (bounds_at m x t) (bounds_at m y t)
+  bounds_at_Cmp : (r : Relation) (x y : Expr) → bounds_at m (v.Cmp r x y) t ≡ comparison (bounds_at m x t) (bounds_at m y t)
   unfolding bounds_at
-  bounds_at-Cmp r x y = ap (λ (e : Expr). bounds_at m e t) (sym (v.rolls-Cmp r x y)) ∙ ap (λ (f : ℕ → Option Bounds). f t) (fold-roll-Expr (ℕ → Option Bounds) (layer_bounds m) (Cmp r x y))
+  bounds_at_Cmp r x y = ap (λ (e : Expr). bounds_at m e t) (sym (v.rolls-Cmp r x y)) ∙ ap (λ (f : ℕ → Option Bounds). f t) (fold-roll-Expr (ℕ → Option Bounds) (layer_bounds m) (Cmp r x y))
 
-nesting-Num : (n : ℤ) → nesting (v.Num n) ≡ 1
+nesting_Num : (n : ℤ) → nesting (v.Num n) ≡ 1
 unfolding nesting
-nesting-Num n = ap nesting (sym (v.rolls-Num n)) ∙ fold-roll-Expr ℕ layer_nesting (Num n)
+nesting_Num n = ap nesting (sym (v.rolls-Num n)) ∙ fold-roll-Expr ℕ layer_nesting (Num n)
 
-nesting-Attr : (a : ℕ) → nesting (v.Attr a) ≡ 1
+nesting_Attr : (a : ℕ) → nesting (v.Attr a) ≡ 1
 unfolding nesting
-nesting-Attr a = ap nesting (sym (v.rolls-Attr a)) ∙ fold-roll-Expr ℕ layer_nesting (Attr a)
+nesting_Attr a = ap nesting (sym (v.rolls-Attr a)) ∙ fold-roll-Expr ℕ layer_nesting (Attr a)
 
-nesting-Cmp : (r : Relation) (x y : Expr) → nesting (v.Cmp r x y) ≡ 1 + max (nesting x) (nesting y)
+nesting_Cmp : (r : Relation) (x y : Expr) → nesting (v.Cmp r x y) ≡ 1 + max (nesting x) (nesting y)
 unfolding nesting
-nesting-Cmp r x y = ap nesting (sym (v.rolls-Cmp r x y)) ∙ fold-roll-Expr ℕ layer_nesting (Cmp r x y)
+nesting_Cmp r x y = ap nesting (sym (v.rolls-Cmp r x y)) ∙ fold-roll-Expr ℕ layer_nesting (Cmp r x y)
 
 truth_of_numbers : (x y : Option Bounds) → is_number x ≡ true → is_number y ≡ true → is_truth (comparison x y) ≡ true
 truth_of_numbers (Some (number a b)) (Some (number c d)) p q = refl
@@ -104,8 +104,8 @@ module _ (m : Model) (attributes : List AttrDecl) (same : attributes_at m 0 ≡ 
       let is_num = some_same (v.Num n) x (provided_value (is_within farthest_bound n) (Some (v.Num n)) x h) in
       rw (← is_num) record {
         plain = ap is_plain_side (v.outs-Num n);
-        flat = nesting-Num n;
-        number_ = rw (bounds_at-Num m 0 n, within) refl;
+        flat = nesting_Num n;
+        number_ = rw (bounds_at_Num m 0 n, within) refl;
       }
 
   side_of_attribute : (id : ℕ) → id < length attributes → IsSide m (v.Attr id)
@@ -113,8 +113,8 @@ module _ (m : Model) (attributes : List AttrDecl) (same : attributes_at m 0 ≡ 
       let there = found_in is_sound 0 attributes id sound (omega arith) (omega arith) in
       record {
         plain = ap is_plain_side (v.outs-Attr id);
-        flat = nesting-Attr id;
-        number_ = rw (bounds_at-Attr m 0 id, same) (number_found (of_range bounded) (find (λ a. a.id == id) (row_from 0 attributes)) there.attribute there.found (number_in_range there.attribute.id there.attribute.domain there.passes));
+        flat = nesting_Attr id;
+        number_ = rw (bounds_at_Attr m 0 id, same) (number_found (of_range bounded) (find (λ a. a.id == id) (row_from 0 attributes)) there.attribute there.found (number_in_range there.attribute.id there.attribute.domain there.passes));
       }
 
   below : (name : List ℕ) (id : ℕ) → attribute_named attributes name ≡ Some id → id < length attributes
@@ -152,7 +152,7 @@ module _ (m : Model) (attributes : List AttrDecl) (same : attributes_at m 0 ≡ 
   of_sides : (r : Relation) (x y : Expr) → IsSide m x → IsSide m y → IsComparison (v.Cmp r x y)
   of_sides r x y left right = record {
     plain = ap is_plain_comparison (v.outs-Cmp r x y) ∙ both_hold _ _ left.plain right.plain;
-    truth_ = rw (nesting-Cmp r x y, left.flat, right.flat, bounds_at-Cmp m 0 r x y) (truth_of_numbers (bounds_at m x 0) (bounds_at m y 0) left.number_ right.number_);
+    truth_ = rw (nesting_Cmp r x y, left.flat, right.flat, bounds_at_Cmp m 0 r x y) (truth_of_numbers (bounds_at m x 0) (bounds_at m y 0) left.number_ right.number_);
   }
 
   pub comparison_of : (d : Data) (e : Expr) → plain_comparison attributes d ≡ Some e → IsComparison e

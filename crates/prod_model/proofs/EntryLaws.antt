@@ -10,45 +10,45 @@ use Rattle.prod_model.specs.declared.model.TypeDecl.{TypeDecl}
 use Rattle.prod_model.specs.Names.{same_text}
 use Rattle.prod_model.specs.Forest.{line}
 use Rattle.prod_model.specs.Taxonomy.{Named, declarations_of, new_declarations, all_new_declarations, first_id, new_entries, kept_entry, extended_entries, entries_of}
-use Rattle.prod_model.proofs.ForestLines.{HasNoCycle, line-of_parent}
-use Rattle.prod_model.proofs.ListLaws.{range-split}
+use Rattle.prod_model.proofs.ForestLines.{HasNoCycle, line_of_parent}
+use Rattle.prod_model.proofs.ListLaws.{range_split}
 
 module _ {D A : Type 0} (declared : TypeDecl → List D) (name_of : D → List ℕ)
     (made : ℕ → D → A) (narrowed : D → A → A) where
   -- ---- names
 
   -- new entries have the names of their declarations
-  names-new_entries : (id : ℕ) (ds : List D)
+  names_new_entries : (id : ℕ) (ds : List D)
       → map (λ e. e.name) (new_entries declared name_of made narrowed id ds) ≡ map name_of ds
-  names-new_entries id [] = refl
-  names-new_entries id (d ∷ ds) = ap (λ ns. name_of d ∷ ns) (names-new_entries (id + 1) ds)
+  names_new_entries id [] = refl
+  names_new_entries id (d ∷ ds) = ap (λ ns. name_of d ∷ ns) (names_new_entries (id + 1) ds)
 
   -- an entry keeps its name, narrowed or not
-  name-narrowed : (e : Named A) (d : Option D)
+  name_narrowed : (e : Named A) (d : Option D)
       → (option_map_or (λ d. record { name = e.name; what = narrowed d e.what }) d e).name ≡ e.name
-  name-narrowed e None = refl
-  name-narrowed e (Some d) = refl
+  name_narrowed e None = refl
+  name_narrowed e (Some d) = refl
 
   -- inherited entries keep their names
-  names-kept : (ds : List D) (es : List (Named A))
+  names_kept : (ds : List D) (es : List (Named A))
       → map (λ e. e.name) (map (kept_entry declared name_of made narrowed ds) es) ≡ map (λ e. e.name) es
-  names-kept ds [] = refl
-  names-kept ds (e ∷ es) =
-      let here = name-narrowed e (find (λ d. same_text (name_of d) e.name) ds) in
-      let rest = names-kept ds es in cc
+  names_kept ds [] = refl
+  names_kept ds (e ∷ es) =
+      let here = name_narrowed e (find (λ d. same_text (name_of d) e.name) ds) in
+      let rest = names_kept ds es in cc
 
   -- the names that are inherited, and then the new ones
-  pub names-extended : (types : List TypeDecl) (es : List (Named A)) (u : ℕ)
+  pub names_extended : (types : List TypeDecl) (es : List (Named A)) (u : ℕ)
       → map (λ e. e.name) (extended_entries declared name_of made narrowed types es u)
       ≡ map (λ e. e.name) es ++ map name_of (new_declarations declared name_of types u)
-  names-extended types es u =
+  names_extended types es u =
       let ds = declarations_of declared name_of types u in
       let new = new_declarations declared name_of types u in
       let id = first_id declared name_of types u in
       let added = new_entries declared name_of made narrowed id new in
       map-append (λ e. e.name) (map (kept_entry declared name_of made narrowed ds) es) added
-      ∙ ap (λ ns. ns ++ map (λ e. e.name) added) (names-kept ds es)
-      ∙ ap (λ ns. map (λ e. e.name) es ++ ns) (names-new_entries id new)
+      ∙ ap (λ ns. ns ++ map (λ e. e.name) added) (names_kept ds es)
+      ∙ ap (λ ns. map (λ e. e.name) es ++ ns) (names_new_entries id new)
 
   -- ---- along a line
 
@@ -57,22 +57,22 @@ module _ {D A : Type 0} (declared : TypeDecl → List D) (name_of : D → List �
   entries_along types us = fold (extended_entries declared name_of made narrowed types) [] (reverse us)
 
   -- a type more in front extends them
-  pub entries-cons : (types : List TypeDecl) (u : ℕ) (us : List ℕ)
+  pub entries_along_cons : (types : List TypeDecl) (u : ℕ) (us : List ℕ)
       → entries_along types (u ∷ us)
       ≡ extended_entries declared name_of made narrowed types (entries_along types us) u
-  entries-cons types u us =
+  entries_along_cons types u us =
       let extend = extended_entries declared name_of made narrowed types in
       ap (fold extend []) (reverse-append (u ∷ []) us) ∙ fold-append extend [] (reverse us) (u ∷ [])
 
   -- what a type has is what its parent has, if it has one, extended
-  pub entries-of_parent : (types : List TypeDecl) → HasNoCycle types → (t : ℕ) (d : TypeDecl)
+  pub entries_of_parent : (types : List TypeDecl) → HasNoCycle types → (t : ℕ) (d : TypeDecl)
       → slice_get types t ≡ Some d
       → entries_of declared name_of made narrowed types t
       ≡ extended_entries declared name_of made narrowed types
       (option_map_or (entries_of declared name_of made narrowed types) d.parent []) t
-  entries-of_parent types forest t d is =
-      ap (entries_along types) (line-of_parent types forest t d is)
-      ∙ entries-cons types t (option_map_or (line types) d.parent [])
+  entries_of_parent types forest t d is =
+      ap (entries_along types) (line_of_parent types forest t d is)
+      ∙ entries_along_cons types t (option_map_or (line types) d.parent [])
       ∙ ap (λ es. extended_entries declared name_of made narrowed types es t) (by d.parent)
     where
       by : (o : Option ℕ) → entries_along types (option_map_or (line types) o [])
@@ -82,17 +82,17 @@ module _ {D A : Type 0} (declared : TypeDecl → List D) (name_of : D → List �
 
 module _ {D : Type 0} (declared : TypeDecl → List D) (name_of : D → List ℕ) where
   -- the new declarations of a type stand in file order after those of the types before it
-  pub all_new-split : (types : List TypeDecl) (t : ℕ) → t < length types
+  pub all_new_split : (types : List TypeDecl) (t : ℕ) → t < length types
       → all_new_declarations declared name_of types
       ≡ flat_map (new_declarations declared name_of types) (range_with_len 0 t)
       ++ (new_declarations declared name_of types t
       ++ flat_map (new_declarations declared name_of types)
       (range_with_len (0 + t + 1) (length types - t - 1)))
-  all_new-split types t within =
+  all_new_split types t within =
       let new = new_declarations declared name_of types in
       let more = length types - t - 1 in
       let sum : length types ≡ t + suc more = omega arith in
-      ap (λ n. flat_map new (range_with_len 0 n)) sum ∙ ap (flat_map new) (range-split 0 t more)
+      ap (λ n. flat_map new (range_with_len 0 n)) sum ∙ ap (flat_map new) (range_split 0 t more)
       ∙ flat_map-append new (range_with_len 0 t) ((0 + t) ∷ range_with_len (0 + t + 1) more)
       ∙ ap (λ k. flat_map new (range_with_len 0 t) ++ (new k ++ flat_map new (range_with_len (0 + t + 1) more)))
       (zero-add t)

@@ -6,7 +6,7 @@ use Rattle.std.specs.List.{fold}
 use Rattle.std.proofs.Common.{ap, ◌∙◌}
 use Rattle.std.proofs.lemmas.List.{length-map}
 use Rattle.std.proofs.lemmas.List.Folds.{fold-map}
-use Rattle.std.proofs.lemmas.Simd.{map-map}
+use Rattle.std.proofs.lemmas.Simd.{map_map}
 use Rattle.prod_model.specs.declared.model.Model.{Model}
 use Rattle.prod_model.specs.declared.expr_bounds.Bounds.{Bounds}
 use Rattle.prod_model.specs.declared.expr_bounds.Bounds.TheVariants.{Number as number, Truth as truth}
@@ -21,160 +21,160 @@ use Rattle.prod_model.specs.Nesting.{nesting, layer_nesting}
 use Rattle.prod_model.specs.ExprBounds.{bounds_at, layer_bounds, bounded, sum_of_some, sum_of_all, difference, multiple, comparison, truth_of, of_range, is_word_of, has_arguments}
 
 module _ (m : Model) (t : ℕ) where
-  pub bounds_at-Num : (n : ℤ) → bounds_at m (roll-Expr (Num n)) t ≡ bounded n n
+  pub bounds_at_Num : (n : ℤ) → bounds_at m (roll-Expr (Num n)) t ≡ bounded n n
   unfolding bounds_at
-  bounds_at-Num n = ap (λ (f : ℕ → Option Bounds). f t) (fold-roll-Expr (ℕ → Option Bounds) (layer_bounds m) (Num n))
+  bounds_at_Num n = ap (λ (f : ℕ → Option Bounds). f t) (fold-roll-Expr (ℕ → Option Bounds) (layer_bounds m) (Num n))
 
-  pub bounds_at-Attr : (a : ℕ) → bounds_at m (roll-Expr (Attr a)) t ≡ option_and_then (of_range bounded) (attribute_of m t a)
+  pub bounds_at_Attr : (a : ℕ) → bounds_at m (roll-Expr (Attr a)) t ≡ option_and_then (of_range bounded) (attribute_of m t a)
   unfolding bounds_at
-  bounds_at-Attr a = ap (λ (f : ℕ → Option Bounds). f t) (fold-roll-Expr (ℕ → Option Bounds) (layer_bounds m) (Attr a))
+  bounds_at_Attr a = ap (λ (f : ℕ → Option Bounds). f t) (fold-roll-Expr (ℕ → Option Bounds) (layer_bounds m) (Attr a))
 
-  pub bounds_at-Count : (p : ℕ) → bounds_at m (roll-Expr (Count p)) t ≡ option_map (λ q. number (pos q.low) (pos q.high)) (port_of m t p)
+  pub bounds_at_Count : (p : ℕ) → bounds_at m (roll-Expr (Count p)) t ≡ option_map (λ q. number (pos q.low) (pos q.high)) (port_of m t p)
   unfolding bounds_at
-  bounds_at-Count p = ap (λ (f : ℕ → Option Bounds). f t) (fold-roll-Expr (ℕ → Option Bounds) (layer_bounds m) (Count p))
+  bounds_at_Count p = ap (λ (f : ℕ → Option Bounds). f t) (fold-roll-Expr (ℕ → Option Bounds) (layer_bounds m) (Count p))
 
-  pub bounds_at-CountOf : (p u : ℕ) → bounds_at m (roll-Expr (CountOf p u)) t ≡ (if is_type m u then option_map (λ q. number (pos 0) (pos q.high)) (port_of m t p) else None)
+  pub bounds_at_CountOf : (p u : ℕ) → bounds_at m (roll-Expr (CountOf p u)) t ≡ (if is_type m u then option_map (λ q. number (pos 0) (pos q.high)) (port_of m t p) else None)
   unfolding bounds_at
-  bounds_at-CountOf p u = ap (λ (f : ℕ → Option Bounds). f t) (fold-roll-Expr (ℕ → Option Bounds) (layer_bounds m) (CountOf p u))
+  bounds_at_CountOf p u = ap (λ (f : ℕ → Option Bounds). f t) (fold-roll-Expr (ℕ → Option Bounds) (layer_bounds m) (CountOf p u))
 
-  pub bounds_at-Sum : (p a : ℕ) → bounds_at m (roll-Expr (Sum p a)) t ≡ option_and_then (λ q. option_and_then (of_range (sum_of_some q.low q.high)) (attribute_of m q.target a)) (port_of m t p)
+  pub bounds_at_Sum : (p a : ℕ) → bounds_at m (roll-Expr (Sum p a)) t ≡ option_and_then (λ q. option_and_then (of_range (sum_of_some q.low q.high)) (attribute_of m q.target a)) (port_of m t p)
   unfolding bounds_at
-  bounds_at-Sum p a = ap (λ (f : ℕ → Option Bounds). f t) (fold-roll-Expr (ℕ → Option Bounds) (layer_bounds m) (Sum p a))
+  bounds_at_Sum p a = ap (λ (f : ℕ → Option Bounds). f t) (fold-roll-Expr (ℕ → Option Bounds) (layer_bounds m) (Sum p a))
 
-  pub bounds_at-Total : (u a : ℕ) → bounds_at m (roll-Expr (Total u a)) t ≡ option_and_then (of_range (sum_of_some 0 m.instances)) (attribute_of m u a)
+  pub bounds_at_Total : (u a : ℕ) → bounds_at m (roll-Expr (Total u a)) t ≡ option_and_then (of_range (sum_of_some 0 m.instances)) (attribute_of m u a)
   unfolding bounds_at
-  bounds_at-Total u a = ap (λ (f : ℕ → Option Bounds). f t) (fold-roll-Expr (ℕ → Option Bounds) (layer_bounds m) (Total u a))
+  bounds_at_Total u a = ap (λ (f : ℕ → Option Bounds). f t) (fold-roll-Expr (ℕ → Option Bounds) (layer_bounds m) (Total u a))
 
-  pub bounds_at-Number : (u : ℕ) → bounds_at m (roll-Expr (Number u)) t ≡ (if is_type m u then Some (number (pos 0) (pos m.instances)) else None)
+  pub bounds_at_Number : (u : ℕ) → bounds_at m (roll-Expr (Number u)) t ≡ (if is_type m u then Some (number (pos 0) (pos m.instances)) else None)
   unfolding bounds_at
-  bounds_at-Number u = ap (λ (f : ℕ → Option Bounds). f t) (fold-roll-Expr (ℕ → Option Bounds) (layer_bounds m) (Number u))
+  bounds_at_Number u = ap (λ (f : ℕ → Option Bounds). f t) (fold-roll-Expr (ℕ → Option Bounds) (layer_bounds m) (Number u))
 
-  pub bounds_at-Add : (es : List Expr) → bounds_at m (roll-Expr (Add es)) t ≡ (if has_arguments es then sum_of_all (pos 0) (pos 0) (map (λ e. bounds_at m e t) es) else None)
+  pub bounds_at_Add : (es : List Expr) → bounds_at m (roll-Expr (Add es)) t ≡ (if has_arguments es then sum_of_all (pos 0) (pos 0) (map (λ e. bounds_at m e t) es) else None)
   unfolding bounds_at
-  bounds_at-Add es = ap (λ (f : ℕ → Option Bounds). f t) (fold-roll-Expr (ℕ → Option Bounds) (layer_bounds m) (Add es)) ∙ simp (map-map, length-map)
+  bounds_at_Add es = ap (λ (f : ℕ → Option Bounds). f t) (fold-roll-Expr (ℕ → Option Bounds) (layer_bounds m) (Add es)) ∙ simp (map_map, length-map)
 
-  pub bounds_at-Sub : (e f : Expr) → bounds_at m (roll-Expr (Sub e f)) t ≡ difference (bounds_at m e t) (bounds_at m f t)
+  pub bounds_at_Sub : (e f : Expr) → bounds_at m (roll-Expr (Sub e f)) t ≡ difference (bounds_at m e t) (bounds_at m f t)
   unfolding bounds_at
-  bounds_at-Sub e f = ap (λ (f : ℕ → Option Bounds). f t) (fold-roll-Expr (ℕ → Option Bounds) (layer_bounds m) (Sub e f))
+  bounds_at_Sub e f = ap (λ (f : ℕ → Option Bounds). f t) (fold-roll-Expr (ℕ → Option Bounds) (layer_bounds m) (Sub e f))
 
-  pub bounds_at-Times : (k : ℤ) (e : Expr) → bounds_at m (roll-Expr (Times k e)) t ≡ multiple k (bounds_at m e t)
+  pub bounds_at_Times : (k : ℤ) (e : Expr) → bounds_at m (roll-Expr (Times k e)) t ≡ multiple k (bounds_at m e t)
   unfolding bounds_at
-  bounds_at-Times k e = ap (λ (f : ℕ → Option Bounds). f t) (fold-roll-Expr (ℕ → Option Bounds) (layer_bounds m) (Times k e))
+  bounds_at_Times k e = ap (λ (f : ℕ → Option Bounds). f t) (fold-roll-Expr (ℕ → Option Bounds) (layer_bounds m) (Times k e))
 
-  pub bounds_at-Cmp : (r : Relation) (e f : Expr) → bounds_at m (roll-Expr (Cmp r e f)) t ≡ comparison (bounds_at m e t) (bounds_at m f t)
+  pub bounds_at_Cmp : (r : Relation) (e f : Expr) → bounds_at m (roll-Expr (Cmp r e f)) t ≡ comparison (bounds_at m e t) (bounds_at m f t)
   unfolding bounds_at
-  bounds_at-Cmp r e f = ap (λ (f : ℕ → Option Bounds). f t) (fold-roll-Expr (ℕ → Option Bounds) (layer_bounds m) (Cmp r e f))
+  bounds_at_Cmp r e f = ap (λ (f : ℕ → Option Bounds). f t) (fold-roll-Expr (ℕ → Option Bounds) (layer_bounds m) (Cmp r e f))
 
-  pub bounds_at-Is : (a w : ℕ) → bounds_at m (roll-Expr (Is a w)) t ≡ (if option_map_or (is_word_of m w) (attribute_of m t a) false then Some truth else None)
+  pub bounds_at_Is : (a w : ℕ) → bounds_at m (roll-Expr (Is a w)) t ≡ (if option_map_or (is_word_of m w) (attribute_of m t a) false then Some truth else None)
   unfolding bounds_at
-  bounds_at-Is a w = ap (λ (f : ℕ → Option Bounds). f t) (fold-roll-Expr (ℕ → Option Bounds) (layer_bounds m) (Is a w))
+  bounds_at_Is a w = ap (λ (f : ℕ → Option Bounds). f t) (fold-roll-Expr (ℕ → Option Bounds) (layer_bounds m) (Is a w))
 
-  pub bounds_at-Kind : (u : ℕ) → bounds_at m (roll-Expr (Kind u)) t ≡ (if is_type m u then Some truth else None)
+  pub bounds_at_Kind : (u : ℕ) → bounds_at m (roll-Expr (Kind u)) t ≡ (if is_type m u then Some truth else None)
   unfolding bounds_at
-  bounds_at-Kind u = ap (λ (f : ℕ → Option Bounds). f t) (fold-roll-Expr (ℕ → Option Bounds) (layer_bounds m) (Kind u))
+  bounds_at_Kind u = ap (λ (f : ℕ → Option Bounds). f t) (fold-roll-Expr (ℕ → Option Bounds) (layer_bounds m) (Kind u))
 
-  pub bounds_at-And : (es : List Expr) → bounds_at m (roll-Expr (And es)) t ≡ (if has_arguments es then truth_of (map (λ e. bounds_at m e t) es) else None)
+  pub bounds_at_And : (es : List Expr) → bounds_at m (roll-Expr (And es)) t ≡ (if has_arguments es then truth_of (map (λ e. bounds_at m e t) es) else None)
   unfolding bounds_at
-  bounds_at-And es = ap (λ (f : ℕ → Option Bounds). f t) (fold-roll-Expr (ℕ → Option Bounds) (layer_bounds m) (And es)) ∙ simp (map-map, length-map)
+  bounds_at_And es = ap (λ (f : ℕ → Option Bounds). f t) (fold-roll-Expr (ℕ → Option Bounds) (layer_bounds m) (And es)) ∙ simp (map_map, length-map)
 
-  pub bounds_at-Or : (es : List Expr) → bounds_at m (roll-Expr (Or es)) t ≡ (if has_arguments es then truth_of (map (λ e. bounds_at m e t) es) else None)
+  pub bounds_at_Or : (es : List Expr) → bounds_at m (roll-Expr (Or es)) t ≡ (if has_arguments es then truth_of (map (λ e. bounds_at m e t) es) else None)
   unfolding bounds_at
-  bounds_at-Or es = ap (λ (f : ℕ → Option Bounds). f t) (fold-roll-Expr (ℕ → Option Bounds) (layer_bounds m) (Or es)) ∙ simp (map-map, length-map)
+  bounds_at_Or es = ap (λ (f : ℕ → Option Bounds). f t) (fold-roll-Expr (ℕ → Option Bounds) (layer_bounds m) (Or es)) ∙ simp (map_map, length-map)
 
-  pub bounds_at-Not : (e : Expr) → bounds_at m (roll-Expr (Not e)) t ≡ truth_of (bounds_at m e t ∷ [])
+  pub bounds_at_Not : (e : Expr) → bounds_at m (roll-Expr (Not e)) t ≡ truth_of (bounds_at m e t ∷ [])
   unfolding bounds_at
-  bounds_at-Not e = ap (λ (f : ℕ → Option Bounds). f t) (fold-roll-Expr (ℕ → Option Bounds) (layer_bounds m) (Not e))
+  bounds_at_Not e = ap (λ (f : ℕ → Option Bounds). f t) (fold-roll-Expr (ℕ → Option Bounds) (layer_bounds m) (Not e))
 
-  pub bounds_at-If : (e f : Expr) → bounds_at m (roll-Expr (If e f)) t ≡ truth_of (bounds_at m e t ∷ bounds_at m f t ∷ [])
+  pub bounds_at_If : (e f : Expr) → bounds_at m (roll-Expr (If e f)) t ≡ truth_of (bounds_at m e t ∷ bounds_at m f t ∷ [])
   unfolding bounds_at
-  bounds_at-If e f = ap (λ (f : ℕ → Option Bounds). f t) (fold-roll-Expr (ℕ → Option Bounds) (layer_bounds m) (If e f))
+  bounds_at_If e f = ap (λ (f : ℕ → Option Bounds). f t) (fold-roll-Expr (ℕ → Option Bounds) (layer_bounds m) (If e f))
 
-  pub bounds_at-All : (p : ℕ) (e : Expr) → bounds_at m (roll-Expr (All p e)) t ≡ option_and_then (λ q. truth_of (bounds_at m e q.target ∷ [])) (port_of m t p)
+  pub bounds_at_All : (p : ℕ) (e : Expr) → bounds_at m (roll-Expr (All p e)) t ≡ option_and_then (λ q. truth_of (bounds_at m e q.target ∷ [])) (port_of m t p)
   unfolding bounds_at
-  bounds_at-All p e = ap (λ (f : ℕ → Option Bounds). f t) (fold-roll-Expr (ℕ → Option Bounds) (layer_bounds m) (All p e))
+  bounds_at_All p e = ap (λ (f : ℕ → Option Bounds). f t) (fold-roll-Expr (ℕ → Option Bounds) (layer_bounds m) (All p e))
 
-  pub bounds_at-Any : (p : ℕ) (e : Expr) → bounds_at m (roll-Expr (Any p e)) t ≡ option_and_then (λ q. truth_of (bounds_at m e q.target ∷ [])) (port_of m t p)
+  pub bounds_at_Any : (p : ℕ) (e : Expr) → bounds_at m (roll-Expr (Any p e)) t ≡ option_and_then (λ q. truth_of (bounds_at m e q.target ∷ [])) (port_of m t p)
   unfolding bounds_at
-  bounds_at-Any p e = ap (λ (f : ℕ → Option Bounds). f t) (fold-roll-Expr (ℕ → Option Bounds) (layer_bounds m) (Any p e))
+  bounds_at_Any p e = ap (λ (f : ℕ → Option Bounds). f t) (fold-roll-Expr (ℕ → Option Bounds) (layer_bounds m) (Any p e))
 
-pub nesting-Num : (n : ℤ) → nesting (roll-Expr (Num n)) ≡ 1
+pub nesting_Num : (n : ℤ) → nesting (roll-Expr (Num n)) ≡ 1
 unfolding nesting
-nesting-Num n = fold-roll-Expr ℕ layer_nesting (Num n)
+nesting_Num n = fold-roll-Expr ℕ layer_nesting (Num n)
 
-pub nesting-Attr : (a : ℕ) → nesting (roll-Expr (Attr a)) ≡ 1
+pub nesting_Attr : (a : ℕ) → nesting (roll-Expr (Attr a)) ≡ 1
 unfolding nesting
-nesting-Attr a = fold-roll-Expr ℕ layer_nesting (Attr a)
+nesting_Attr a = fold-roll-Expr ℕ layer_nesting (Attr a)
 
-pub nesting-Count : (p : ℕ) → nesting (roll-Expr (Count p)) ≡ 1
+pub nesting_Count : (p : ℕ) → nesting (roll-Expr (Count p)) ≡ 1
 unfolding nesting
-nesting-Count p = fold-roll-Expr ℕ layer_nesting (Count p)
+nesting_Count p = fold-roll-Expr ℕ layer_nesting (Count p)
 
-pub nesting-CountOf : (p u : ℕ) → nesting (roll-Expr (CountOf p u)) ≡ 1
+pub nesting_CountOf : (p u : ℕ) → nesting (roll-Expr (CountOf p u)) ≡ 1
 unfolding nesting
-nesting-CountOf p u = fold-roll-Expr ℕ layer_nesting (CountOf p u)
+nesting_CountOf p u = fold-roll-Expr ℕ layer_nesting (CountOf p u)
 
-pub nesting-Sum : (p a : ℕ) → nesting (roll-Expr (Sum p a)) ≡ 1
+pub nesting_Sum : (p a : ℕ) → nesting (roll-Expr (Sum p a)) ≡ 1
 unfolding nesting
-nesting-Sum p a = fold-roll-Expr ℕ layer_nesting (Sum p a)
+nesting_Sum p a = fold-roll-Expr ℕ layer_nesting (Sum p a)
 
-pub nesting-Total : (u a : ℕ) → nesting (roll-Expr (Total u a)) ≡ 1
+pub nesting_Total : (u a : ℕ) → nesting (roll-Expr (Total u a)) ≡ 1
 unfolding nesting
-nesting-Total u a = fold-roll-Expr ℕ layer_nesting (Total u a)
+nesting_Total u a = fold-roll-Expr ℕ layer_nesting (Total u a)
 
-pub nesting-Number : (u : ℕ) → nesting (roll-Expr (Number u)) ≡ 1
+pub nesting_Number : (u : ℕ) → nesting (roll-Expr (Number u)) ≡ 1
 unfolding nesting
-nesting-Number u = fold-roll-Expr ℕ layer_nesting (Number u)
+nesting_Number u = fold-roll-Expr ℕ layer_nesting (Number u)
 
-pub nesting-Add : (es : List Expr) → nesting (roll-Expr (Add es)) ≡ 1 + fold (λ n e. max n (nesting e)) 0 es
+pub nesting_Add : (es : List Expr) → nesting (roll-Expr (Add es)) ≡ 1 + fold (λ n e. max n (nesting e)) 0 es
 unfolding nesting
-nesting-Add es = fold-roll-Expr ℕ layer_nesting (Add es) ∙ simp fold-map
+nesting_Add es = fold-roll-Expr ℕ layer_nesting (Add es) ∙ simp fold-map
 
-pub nesting-Sub : (e f : Expr) → nesting (roll-Expr (Sub e f)) ≡ 1 + max (nesting e) (nesting f)
+pub nesting_Sub : (e f : Expr) → nesting (roll-Expr (Sub e f)) ≡ 1 + max (nesting e) (nesting f)
 unfolding nesting
-nesting-Sub e f = fold-roll-Expr ℕ layer_nesting (Sub e f)
+nesting_Sub e f = fold-roll-Expr ℕ layer_nesting (Sub e f)
 
-pub nesting-Times : (k : ℤ) (e : Expr) → nesting (roll-Expr (Times k e)) ≡ 1 + nesting e
+pub nesting_Times : (k : ℤ) (e : Expr) → nesting (roll-Expr (Times k e)) ≡ 1 + nesting e
 unfolding nesting
-nesting-Times k e = fold-roll-Expr ℕ layer_nesting (Times k e)
+nesting_Times k e = fold-roll-Expr ℕ layer_nesting (Times k e)
 
-pub nesting-Cmp : (r : Relation) (e f : Expr) → nesting (roll-Expr (Cmp r e f)) ≡ 1 + max (nesting e) (nesting f)
+pub nesting_Cmp : (r : Relation) (e f : Expr) → nesting (roll-Expr (Cmp r e f)) ≡ 1 + max (nesting e) (nesting f)
 unfolding nesting
-nesting-Cmp r e f = fold-roll-Expr ℕ layer_nesting (Cmp r e f)
+nesting_Cmp r e f = fold-roll-Expr ℕ layer_nesting (Cmp r e f)
 
-pub nesting-Is : (a w : ℕ) → nesting (roll-Expr (Is a w)) ≡ 1
+pub nesting_Is : (a w : ℕ) → nesting (roll-Expr (Is a w)) ≡ 1
 unfolding nesting
-nesting-Is a w = fold-roll-Expr ℕ layer_nesting (Is a w)
+nesting_Is a w = fold-roll-Expr ℕ layer_nesting (Is a w)
 
-pub nesting-Kind : (u : ℕ) → nesting (roll-Expr (Kind u)) ≡ 1
+pub nesting_Kind : (u : ℕ) → nesting (roll-Expr (Kind u)) ≡ 1
 unfolding nesting
-nesting-Kind u = fold-roll-Expr ℕ layer_nesting (Kind u)
+nesting_Kind u = fold-roll-Expr ℕ layer_nesting (Kind u)
 
-pub nesting-And : (es : List Expr) → nesting (roll-Expr (And es)) ≡ 1 + fold (λ n e. max n (nesting e)) 0 es
+pub nesting_And : (es : List Expr) → nesting (roll-Expr (And es)) ≡ 1 + fold (λ n e. max n (nesting e)) 0 es
 unfolding nesting
-nesting-And es = fold-roll-Expr ℕ layer_nesting (And es) ∙ simp fold-map
+nesting_And es = fold-roll-Expr ℕ layer_nesting (And es) ∙ simp fold-map
 
-pub nesting-Or : (es : List Expr) → nesting (roll-Expr (Or es)) ≡ 1 + fold (λ n e. max n (nesting e)) 0 es
+pub nesting_Or : (es : List Expr) → nesting (roll-Expr (Or es)) ≡ 1 + fold (λ n e. max n (nesting e)) 0 es
 unfolding nesting
-nesting-Or es = fold-roll-Expr ℕ layer_nesting (Or es) ∙ simp fold-map
+nesting_Or es = fold-roll-Expr ℕ layer_nesting (Or es) ∙ simp fold-map
 
-pub nesting-Not : (e : Expr) → nesting (roll-Expr (Not e)) ≡ 1 + nesting e
+pub nesting_Not : (e : Expr) → nesting (roll-Expr (Not e)) ≡ 1 + nesting e
 unfolding nesting
-nesting-Not e = fold-roll-Expr ℕ layer_nesting (Not e)
+nesting_Not e = fold-roll-Expr ℕ layer_nesting (Not e)
 
-pub nesting-If : (e f : Expr) → nesting (roll-Expr (If e f)) ≡ 1 + max (nesting e) (nesting f)
+pub nesting_If : (e f : Expr) → nesting (roll-Expr (If e f)) ≡ 1 + max (nesting e) (nesting f)
 unfolding nesting
-nesting-If e f = fold-roll-Expr ℕ layer_nesting (If e f)
+nesting_If e f = fold-roll-Expr ℕ layer_nesting (If e f)
 
-pub nesting-All : (p : ℕ) (e : Expr) → nesting (roll-Expr (All p e)) ≡ 1 + nesting e
+pub nesting_All : (p : ℕ) (e : Expr) → nesting (roll-Expr (All p e)) ≡ 1 + nesting e
 unfolding nesting
-nesting-All p e = fold-roll-Expr ℕ layer_nesting (All p e)
+nesting_All p e = fold-roll-Expr ℕ layer_nesting (All p e)
 
-pub nesting-Any : (p : ℕ) (e : Expr) → nesting (roll-Expr (Any p e)) ≡ 1 + nesting e
+pub nesting_Any : (p : ℕ) (e : Expr) → nesting (roll-Expr (Any p e)) ≡ 1 + nesting e
 unfolding nesting
-nesting-Any p e = fold-roll-Expr ℕ layer_nesting (Any p e)
+nesting_Any p e = fold-roll-Expr ℕ layer_nesting (Any p e)
 
 -- what an expression is at a type, form by form
-pub ruleset bounds_laws = (bounds_at-Num, bounds_at-Attr, bounds_at-Count, bounds_at-CountOf, bounds_at-Sum, bounds_at-Total, bounds_at-Number, bounds_at-Add, bounds_at-Sub, bounds_at-Times, bounds_at-Cmp, bounds_at-Is, bounds_at-Kind, bounds_at-And, bounds_at-Or, bounds_at-Not, bounds_at-If, bounds_at-All, bounds_at-Any)
+pub ruleset bounds_laws = (bounds_at_Num, bounds_at_Attr, bounds_at_Count, bounds_at_CountOf, bounds_at_Sum, bounds_at_Total, bounds_at_Number, bounds_at_Add, bounds_at_Sub, bounds_at_Times, bounds_at_Cmp, bounds_at_Is, bounds_at_Kind, bounds_at_And, bounds_at_Or, bounds_at_Not, bounds_at_If, bounds_at_All, bounds_at_Any)
 
 -- how deep it nests, form by form
-pub ruleset nesting_laws = (nesting-Num, nesting-Attr, nesting-Count, nesting-CountOf, nesting-Sum, nesting-Total, nesting-Number, nesting-Add, nesting-Sub, nesting-Times, nesting-Cmp, nesting-Is, nesting-Kind, nesting-And, nesting-Or, nesting-Not, nesting-If, nesting-All, nesting-Any)
+pub ruleset nesting_laws = (nesting_Num, nesting_Attr, nesting_Count, nesting_CountOf, nesting_Sum, nesting_Total, nesting_Number, nesting_Add, nesting_Sub, nesting_Times, nesting_Cmp, nesting_Is, nesting_Kind, nesting_And, nesting_Or, nesting_Not, nesting_If, nesting_All, nesting_Any)

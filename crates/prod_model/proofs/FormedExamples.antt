@@ -5,7 +5,7 @@ use Rattle.prod_model.specs.declared.model.AttrDecl.{AttrDecl}
 use Rattle.prod_model.specs.declared.model.PortDecl.{PortDecl}
 use Rattle.prod_model.specs.declared.model.Rule.{Rule}
 use Rattle.prod_model.specs.Valid.{has_short_lists}
-use Rattle.prod_model.proofs.ExprBoundsLaws.{bounds_at-Kind, nesting-Kind}
+use Rattle.prod_model.proofs.ExprBoundsLaws.{bounds_at_Kind, nesting_Kind}
 use Rattle.prod_model.proofs.Forms.{range, words, part, shared, root_type, kind}
 use Rattle.prod_model.proofs.ValidExamples.{broken, of_types, box, card, base}
 
@@ -97,7 +97,7 @@ bad_names : map broken (
     ∷ record base { rules = rule (codes "a b") ∷ [] }
     ∷ []) ≡ replicate 5 (only (codes "formed names"))
 unfolding broken
-bad_names = simp (bounds_at-Kind, nesting-Kind)
+bad_names = simp (bounds_at_Kind, nesting_Kind)
 
 -- A word isn't of its form, in a first declaration or in any other.
 bad_words : map broken (
@@ -126,7 +126,7 @@ names_twice = refl
 
 rules_of_one_name : broken (record base { rules = rule (codes "a") ∷ rule (codes "b") ∷ rule (codes "a") ∷ [] }) ≡ only (codes "distinct names")
 unfolding broken
-rules_of_one_name = simp (bounds_at-Kind, nesting-Kind)
+rules_of_one_name = simp (bounds_at_Kind, nesting_Kind)
 
 -- A name may stand in two types, in two lists of words, and as names of different sorts.
 names_apart : broken (of_types (
@@ -138,7 +138,7 @@ names_apart = refl
 -- A rule may have the name of a type.
 rule_named_as_type : broken (record base { rules = rule (codes "Box") ∷ rule (codes "box") ∷ [] }) ≡ []
 unfolding broken
-rule_named_as_type = simp (bounds_at-Kind, nesting-Kind)
+rule_named_as_type = simp (bounds_at_Kind, nesting_Kind)
 
 -- ---- numbers
 

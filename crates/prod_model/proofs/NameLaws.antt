@@ -5,25 +5,25 @@ use Rattle.std.specs.List.{list_any, position}
 use Rattle.std.specs.Cmp.Lexicographic.{nat_list_eq_equiv}
 use Rattle.std.proofs.lemmas.Bool.Decides.{nat_tests}
 use Rattle.prod_model.specs.Names.{same_text}
-use Rattle.prod_model.proofs.ListLaws.{list_any-map, position-map}
+use Rattle.prod_model.proofs.ListLaws.{list_any_map, position_map}
 
 -- a text is the same as itself
-pub same_text-refl : (t : List ℕ) → same_text t t ≡ true
-same_text-refl [] = refl
-same_text-refl (b ∷ bs) = let rest = same_text-refl bs in grind (arith, nat_tests)
+pub same_text_refl : (t : List ℕ) → same_text t t ≡ true
+same_text_refl [] = refl
+same_text_refl (b ∷ bs) = let rest = same_text_refl bs in grind (arith, nat_tests)
 
 -- either way round
-pub same_text-symm : (a b : List ℕ) → same_text a b ≡ same_text b a
-same_text-symm = nat_list_eq_equiv.symm
+pub same_text_symm : (a b : List ℕ) → same_text a b ≡ same_text b a
+same_text_symm = nat_list_eq_equiv.symm
 
 -- one of the borrowed names is the same as one of the names
-pub list_any-now : (name : List ℕ) (texts : List (Bor (List ℕ)))
+pub list_any_now : (name : List ℕ) (texts : List (Bor (List ℕ)))
     → list_any (same_text name) (map (λ t. t.now) texts) ≡ list_any (λ t. same_text name t.now) texts
-list_any-now name texts = list_any-map (same_text name) (λ t. t.now) texts
+list_any_now name texts = list_any_map (same_text name) (λ t. t.now) texts
 
 -- borrowed names are searched as the names are
-pub position-now : (name : List ℕ) (texts : List (Bor (List ℕ)))
+pub position_now : (name : List ℕ) (texts : List (Bor (List ℕ)))
     → position (λ n. same_text n name) (map (λ t. t.now) texts) ≡ position (λ t. same_text name t.now) texts
-position-now name texts =
-    position-map (λ t. t.now) (λ n. same_text n name) (λ t. same_text name t.now)
-    (λ t. same_text-symm t.now name) texts
+position_now name texts =
+    position_map (λ t. t.now) (λ n. same_text n name) (λ t. same_text name t.now)
+    (λ t. same_text_symm t.now name) texts

@@ -8,7 +8,7 @@ use Rattle.prod_model.specs.declared.model.PortDecl.{PortDecl}
 use Rattle.prod_model.specs.declared.model.CountBound.{CountBound}
 use Rattle.prod_model.specs.declared.model.Rule.{Rule}
 use Rattle.prod_model.specs.declared.expr.Expr.{Expr}
-use Rattle.prod_model.proofs.ExprBoundsLaws.{bounds_laws, nesting_laws, bounds_at-Kind, nesting-Kind, nesting-Not, nesting-Cmp, nesting-Num}
+use Rattle.prod_model.proofs.ExprBoundsLaws.{bounds_laws, nesting_laws, bounds_at_Kind, nesting_Kind, nesting_Not, nesting_Cmp, nesting_Num}
 use Rattle.prod_model.proofs.Forms.{range, words, part, shared, root_type, subtype, kind, num, attr, at_most, less, negated}
 use Rattle.prod_model.proofs.ValidExamples.{broken, of_types, narrowed, box, card, base}
 
@@ -39,7 +39,7 @@ unknown_types = refl
 -- A rule has none.
 rule_of_no_type : broken (record base { rules = rule 4 (kind 0) ∷ [] }) ≡ only (codes "known types")
 unfolding broken
-rule_of_no_type = simp (bounds_at-Kind, nesting-Kind)
+rule_of_no_type = simp (bounds_at_Kind, nesting_Kind)
 
 -- Two entries of `bounds` are of one type. They may be of a type and of one under it.
 bounds_of_one_type : map broken (record base { bounds = counted 1 0 ∷ counted 0 0 ∷ counted 1 1 ∷ [] } ∷ record base { bounds = counted 1 0 ∷ counted 2 0 ∷ [] } ∷ [])
@@ -187,4 +187,4 @@ good_rules = simp (bounds_laws, nesting_laws)
 deep_rule : broken (record base { rules = rule 0 (negated (negated (negated (negated (negated (negated (negated (negated (negated (negated (negated (negated (negated (negated (negated (at_most (num (pos 1)) (num (pos 1)))))))))))))))))) ∷ [] })
     ≡ only (codes "faultless rules")
 unfolding broken
-deep_rule = simp (nesting-Not, nesting-Cmp, nesting-Num)
+deep_rule = simp (nesting_Not, nesting_Cmp, nesting_Num)

@@ -6,7 +6,7 @@ use Rattle.prod_model.specs.Taxonomy.{attributes_of}
 use Rattle.prod_model.specs.Nesting.{nesting}
 use Rattle.prod_model.specs.ExprBounds.{bounds_at, multiple, is_truth_at, is_number_at}
 use Rattle.prod_model.specs.declared.expr_bounds.Bounds.TheVariants.{Number as number}
-use Rattle.prod_model.proofs.ExprBoundsLaws.{bounds_laws, nesting_laws, bounds_at-Num, bounds_at-Times, nesting-Num, nesting-Times}
+use Rattle.prod_model.proofs.ExprBoundsLaws.{bounds_laws, nesting_laws, bounds_at_Num, bounds_at_Times, nesting_Num, nesting_Times}
 use Rattle.prod_model.proofs.Forms.{num, attr, count, count_of, sum, total, number_of, add, sub, times, at_most, is_word, kind, and_of, or_of, negated, implied, all_linked, any_linked}
 use Rattle.prod_model.proofs.BoundsExamples.{m}
 
@@ -50,14 +50,14 @@ deepest_numbers : map nesting (once_times 15 (num (pos 1)) ∷ once_times 16 (nu
 deepest_numbers = simp nesting_laws
 
 once_is_one : (n : ℕ) → bounds_at m (once_times n (num (pos 1))) 0 ≡ Some (number (pos 1) (pos 1))
-once_is_one zero = bounds_at-Num m 0 (pos 1)
-once_is_one (suc n) = bounds_at-Times m 0 (pos 1) (once_times n (num (pos 1))) ∙ ap (multiple (pos 1)) (once_is_one n)
+once_is_one zero = bounds_at_Num m 0 (pos 1)
+once_is_one (suc n) = bounds_at_Times m 0 (pos 1) (once_times n (num (pos 1))) ∙ ap (multiple (pos 1)) (once_is_one n)
 
 number_nests_16 : is_number_at m 0 (once_times 15 (num (pos 1))) ≡ true
-number_nests_16 = rw (once_is_one 15) (simp (nesting-Times, nesting-Num))
+number_nests_16 = rw (once_is_one 15) (simp (nesting_Times, nesting_Num))
 
 number_nests_17 : is_number_at m 0 (once_times 16 (num (pos 1))) ≡ false
-number_nests_17 = rw (once_is_one 16) (simp (nesting-Times, nesting-Num))
+number_nests_17 = rw (once_is_one 16) (simp (nesting_Times, nesting_Num))
 
 -- A number is no truth, a truth no number, and what has a fault is neither.
 truths : map (is_truth_at m 0) (compared ∷ num (pos 1) ∷ kind 9 ∷ attr 9 ∷ []) ≡ true ∷ false ∷ false ∷ false ∷ []

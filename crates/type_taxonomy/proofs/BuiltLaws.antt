@@ -32,10 +32,10 @@ length_ports f built =
     ∙ length_table (placed_of (λ d. d.ports) (λ d. d.name) f.model.now.types) (map (map (named (λ d. d.name))) f.ports) (length f.model.now.types) built.ports
 
 -- a line that is read
-pub is_a-line : (m : Model) (lines : List (List ℕ)) (t u : ℕ) (l : List ℕ) → lines ≡ map (line m.types) (type_numbers m.types) → slice_get lines t ≡ Some l
+pub is_a_line : (m : Model) (lines : List (List ℕ)) (t u : ℕ) (l : List ℕ) → lines ≡ map (line m.types) (type_numbers m.types) → slice_get lines t ≡ Some l
     → list_any (λ v. v == u) l ≡ is_a m t u
 unfolding is_a
-is_a-line m lines t u l is found =
+is_a_line m lines t u l is found =
     let within : t < length m.types = omega (arith, slice_get_within lines t l found, length_table (line m.types) lines (length m.types) is) in
     ap (list_any (λ v. v == u)) (table_row (line m.types) lines (length m.types) t l is within (sym (get_or_from_slice_get lines t l l found)))
 
@@ -48,8 +48,8 @@ no_line m lines t u is none (inr past) =
     ap (λ o. list_any (λ v. v == u) (option_map_or (λ d. t ∷ option_map_or (line_within (length m.types) m.types) d.parent []) o [])) (sym (slice_get_past m.types t beyond))
 
 -- and a number that is no type's
-pub is_a-none : (m : Model) (lines : List (List ℕ)) (t u : ℕ) → lines ≡ map (line m.types) (type_numbers m.types) → slice_get lines t ≡ None → false ≡ is_a m t u
-is_a-none m lines t u is none = no_line m lines t u is none (cases_lt t (length lines))
+pub is_a_none : (m : Model) (lines : List (List ℕ)) (t u : ℕ) → lines ≡ map (line m.types) (type_numbers m.types) → slice_get lines t ≡ None → false ≡ is_a m t u
+is_a_none m lines t u is none = no_line m lines t u is none (cases_lt t (length lines))
 
 -- ---- rows of the tables
 

@@ -10,12 +10,12 @@ use Rattle.indexmap.specs.IndexMap.{IndexMap, get_by}
 use Rattle.prod_model.specs.Names.{same_text}
 use Rattle.type_taxonomy.specs.declared.by_name.Found.{Found}
 use Rattle.type_taxonomy.specs.ByName.{found, found_at}
-use Rattle.type_taxonomy.proofs.Inherited.{is_none-map}
-use Rattle.prod_model.proofs.NameLaws.{same_text-symm}
+use Rattle.type_taxonomy.proofs.Inherited.{is_none_map}
+use Rattle.prod_model.proofs.NameLaws.{same_text_symm}
 
-cond-map : {A B : Type 0} (f : A → B) (b : Bool) (x : A) (o : Option A) → option_map f (cond b (Some x) o) ≡ cond b (Some (f x)) (option_map f o)
-cond-map f true x o = refl
-cond-map f false x o = refl
+cond_map : {A B : Type 0} (f : A → B) (b : Bool) (x : A) (o : Option A) → option_map f (cond b (Some x) o) ≡ cond b (Some (f x)) (option_map f o)
+cond_map f true x o = refl
+cond_map f false x o = refl
 
 -- after a declaration is put under a name
 pub found_put : {D S : Type 0} (m n : IndexMap (Bor (List ℕ)) (Found D) S) (key : Bor (List ℕ)) (name : List ℕ) (f : Found D)
@@ -23,7 +23,7 @@ pub found_put : {D S : Type 0} (m n : IndexMap (Bor (List ℕ)) (Found D) S) (ke
     → (q : List ℕ) → found n q ≡ cond (same_text name q) (Some (f.height, f.declared.now)) (found m q)
 found_put m n key name f updates is q =
     ap (option_map (λ g. (g.height, g.declared.now))) (hash_map_updates_str key.now m n (Some f) updates q)
-    ∙ cond-map (λ g. (g.height, g.declared.now)) (same_text key.now q) f (get_by (λ k. same_text q k.now) m)
+    ∙ cond_map (λ g. (g.height, g.declared.now)) (same_text key.now q) f (get_by (λ k. same_text q k.now) m)
     ∙ ap (λ l. cond (same_text l q) (Some (f.height, f.declared.now)) (found m q)) is
 
 -- ---- which names are free
@@ -43,9 +43,9 @@ none_found : {D : Type 0} (name_of : D → List ℕ) (ds : List D) (name : List 
 none_found name_of [] name = refl
 none_found name_of (d ∷ ds) name =
     let rest = list_any (λ e. same_text name (name_of e)) ds in
-    none_cons (same_text (name_of d) name) rest d (find (λ e. same_text (name_of e) name) ds) (none_found name_of ds name) ∙ ap (λ b. not (b || rest)) (same_text-symm (name_of d) name)
+    none_cons (same_text (name_of d) name) rest d (find (λ e. same_text (name_of e) name) ds) (none_found name_of ds name) ∙ ap (λ b. not (b || rest)) (same_text_symm (name_of d) name)
 
 -- nothing is found exactly where none of the declarations has the name
 pub none_at : {D : Type 0} (name_of : D → List ℕ) (height : ℕ) (ds : List D) (name : List ℕ)
     → is_none (found_at name_of height ds name) ≡ not (list_any (λ d. same_text name (name_of d)) ds)
-none_at name_of height ds name = is_none-map (λ d. (height, d)) (find (λ d. same_text (name_of d) name) ds) ∙ none_found name_of ds name
+none_at name_of height ds name = is_none_map (λ d. (height, d)) (find (λ d. same_text (name_of d) name) ds) ∙ none_found name_of ds name

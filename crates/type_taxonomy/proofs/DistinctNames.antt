@@ -8,7 +8,7 @@ use Rattle.prod_model.specs.declared.model.TypeDecl.{TypeDecl}
 use Rattle.prod_model.specs.Names.{same_text, is_distinct}
 use Rattle.prod_model.specs.Valid.{has_distinct_names}
 use Rattle.type_taxonomy.proofs.BoolFacts.{and_parts, opposite, list_all_at}
-use Rattle.prod_model.proofs.NameLaws.{same_text-symm}
+use Rattle.prod_model.proofs.NameLaws.{same_text_symm}
 
 or_parts : (a b : Bool) → (a || b) ≡ false → (a ≡ false) × (b ≡ false)
 or_parts true b none = cc
@@ -20,7 +20,7 @@ none_named : {E : Type 0} (name_of : E → List ℕ) (name : List ℕ) (es : Lis
 none_named name_of name [] none = refl
 none_named name_of name (e ∷ es) none =
     let parts = or_parts (same_text name (name_of e)) (list_any (same_text name) (map name_of es)) none in
-    ap (λ b. cond b (Some e) (find (λ x. same_text (name_of x) name) es)) (same_text-symm (name_of e) name ∙ parts.0) ∙ none_named name_of name es parts.1
+    ap (λ b. cond b (Some e) (find (λ x. same_text (name_of x) name) es)) (same_text_symm (name_of e) name ∙ parts.0) ∙ none_named name_of name es parts.1
 
 module _ {D E : Type 0} (name_of : D → List ℕ) (other_name : E → List ℕ) where
   first_apart : (name : List ℕ) (d : D) (ds : List D) (es : List E) (b : Bool) → same_text (name_of d) name ≡ b

@@ -14,14 +14,14 @@ use Rattle.prod_model.specs.Valid.{inherited, narrows_domain, same_kind, attribu
 use Rattle.type_taxonomy.specs.Entries.{placed_of}
 use Rattle.type_taxonomy.proofs.Finished.{under, attribute_at, port_at, attributes_finished, ports_finished}
 
-pub find-map-cons : {A B : Type 0} (f : A → B) (b : Bool) (x : A) (r : Option B) (q : Option A) → r ≡ option_map f q → cond b (Some (f x)) r ≡ option_map f (cond b (Some x) q)
-find-map-cons f true x r q same = refl
-find-map-cons f false x r q same = same
+pub find_map_cons : {A B : Type 0} (f : A → B) (b : Bool) (x : A) (r : Option B) (q : Option A) → r ≡ option_map f q → cond b (Some (f x)) r ≡ option_map f (cond b (Some x) q)
+find_map_cons f true x r q same = refl
+find_map_cons f false x r q same = same
 
 -- a search of a mapped list
-pub find-map : {A B : Type 0} (p : B → Bool) (f : A → B) (xs : List A) → find p (map f xs) ≡ option_map f (find (λ x. p (f x)) xs)
-find-map p f [] = refl
-find-map p f (x ∷ xs) = find-map-cons f (p (f x)) x (find p (map f xs)) (find (λ y. p (f y)) xs) (find-map p f xs)
+pub find_map : {A B : Type 0} (p : B → Bool) (f : A → B) (xs : List A) → find p (map f xs) ≡ option_map f (find (λ x. p (f x)) xs)
+find_map p f [] = refl
+find_map p f (x ∷ xs) = find_map_cons f (p (f x)) x (find p (map f xs)) (find (λ y. p (f y)) xs) (find_map p f xs)
 
 -- what the parent has under a name, among ids with declarations
 abbrev pub placed_above : {D : Type 0} → (TypeDecl → List D) → (D → List ℕ) → List TypeDecl → Option ℕ → List ℕ → Option (Named (ℕ × D))
@@ -38,16 +38,16 @@ inherited_at : {D A : Type 0} (declared : TypeDecl → List D) (name_of : D → 
 inherited_at declared name_of entries h types None name finished = refl
 inherited_at declared name_of entries h types (Some t) name finished =
     ap (λ l. option_map (λ e. e.what) (find (λ e. same_text e.name name) l)) (sym (finished t))
-    ∙ ap (option_map (λ e. e.what)) (find-map (λ e. same_text e.name name) (under h) (placed_of declared name_of types t))
+    ∙ ap (option_map (λ e. e.what)) (find_map (λ e. same_text e.name name) (under h) (placed_of declared name_of types t))
     ∙ what_under h (find (λ e. same_text e.name name) (placed_of declared name_of types t))
 
-pub is_none-map : {A B : Type 0} (f : A → B) (o : Option A) → is_none (option_map f o) ≡ is_none o
-is_none-map f None = refl
-is_none-map f (Some x) = refl
+pub is_none_map : {A B : Type 0} (f : A → B) (o : Option A) → is_none (option_map f o) ≡ is_none o
+is_none_map f None = refl
+is_none_map f (Some x) = refl
 
-pub map_or-map : {A B C : Type 0} (g : B → C) (f : A → B) (o : Option A) (c : C) → option_map_or g (option_map f o) c ≡ option_map_or (λ x. g (f x)) o c
-map_or-map g f None c = refl
-map_or-map g f (Some x) c = refl
+pub map_or_map : {A B C : Type 0} (g : B → C) (f : A → B) (o : Option A) (c : C) → option_map_or g (option_map f o) c ≡ option_map_or (λ x. g (f x)) o c
+map_or_map g f None c = refl
+map_or_map g f (Some x) c = refl
 
 both : (a b c d : Bool) → a ≡ b → c ≡ d → (a && c) ≡ (b && d)
 both a b c d first second = ap (λ x. x && c) first ∙ ap (λ x. b && x) second
@@ -64,8 +64,8 @@ attribute_told m d a free within is_free is_within =
     inherited_at (λ e. e.ports) (λ e. e.name) ports_of port_at m.types d.parent a.name (ports_finished m.types) in
     let attributes : inherited attributes_of m d a.name ≡ option_map (λ e. attribute_at e.what) above =
     inherited_at (λ e. e.attributes) (λ e. e.name) attributes_of attribute_at m.types d.parent a.name (attributes_finished m.types) in
-    both _ _ _ _ (is_free ∙ sym (is_none-map (λ e. port_at e.what) above_ports) ∙ ap is_none (sym ports))
-    (is_within ∙ sym (map_or-map (λ b. narrows_domain a.domain b.domain) (λ e. attribute_at e.what) above true)
+    both _ _ _ _ (is_free ∙ sym (is_none_map (λ e. port_at e.what) above_ports) ∙ ap is_none (sym ports))
+    (is_within ∙ sym (map_or_map (λ b. narrows_domain a.domain b.domain) (λ e. attribute_at e.what) above true)
     ∙ ap (λ o. option_map_or (λ b. narrows_domain a.domain b.domain) o true) (sym attributes))
 
 -- and those of a port
@@ -82,5 +82,5 @@ port_told m d p free within is_free is_within =
     inherited_at (λ e. e.attributes) (λ e. e.name) attributes_of attribute_at m.types d.parent p.name (attributes_finished m.types) in
     let ports : inherited ports_of m d p.name ≡ option_map (λ e. port_at e.what) above =
     inherited_at (λ e. e.ports) (λ e. e.name) ports_of port_at m.types d.parent p.name (ports_finished m.types) in
-    both _ _ _ _ (is_free ∙ sym (is_none-map (λ e. attribute_at e.what) above_attributes) ∙ ap is_none (sym attributes))
-    (is_within ∙ sym (map_or-map narrow (λ e. port_at e.what) above true) ∙ ap (λ o. option_map_or narrow o true) (sym ports))
+    both _ _ _ _ (is_free ∙ sym (is_none_map (λ e. attribute_at e.what) above_attributes) ∙ ap is_none (sym attributes))
+    (is_within ∙ sym (map_or_map narrow (λ e. port_at e.what) above true) ∙ ap (λ o. option_map_or narrow o true) (sym ports))

@@ -26,8 +26,8 @@ filter_more p xs i x within is =
     ap (filter p) (take_more xs i x within ∙ ap (λ y. take i xs ++ y ∷ []) (sym is)) ∙ filter-append p (take i xs) (x ∷ [])
 
 -- a filter keeps no more than there is
-pub length-filter-le : {X : Type 0} (p : X → Bool) (xs : List X) → length (filter p xs) ≤ length xs
-length-filter-le p xs = omega (arith, length-filter_both p (λ x. not (p x)) (λ _. refl) xs)
+pub length_filter_le : {X : Type 0} (p : X → Bool) (xs : List X) → length (filter p xs) ≤ length xs
+length_filter_le p xs = omega (arith, length-filter_both p (λ x. not (p x)) (λ _. refl) xs)
 
 -- one number more
 pub range_more : (a n : ℕ) → range_with_len a (n + 1) ≡ range_with_len a n ++ (a + n) ∷ []
@@ -37,24 +37,24 @@ range_more a (suc n) =
     let last : (a + 1) + n ≡ a + suc n = omega arith in
     ap (range_with_len a) longer ∙ ap (λ l. a ∷ l) (range_more (a + 1) n ∙ ap (λ k. range_with_len (a + 1) n ++ k ∷ []) last)
 
-sum_by-one : {X : Type 0} (f : X → ℕ) (x : X) → sum_by f (x ∷ []) ≡ f x
-sum_by-one f x = zero-add (f x)
+sum_by_one : {X : Type 0} (f : X → ℕ) (x : X) → sum_by f (x ∷ []) ≡ f x
+sum_by_one f x = zero-add (f x)
 
 -- a sum over one number more
-pub sum_by-range_more : (g : ℕ → ℕ) (a n : ℕ) → sum_by g (range_with_len a (n + 1)) ≡ sum_by g (range_with_len a n) + g (a + n)
-sum_by-range_more g a n = ap (sum_by g) (range_more a n) ∙ sum_by-append g (range_with_len a n) ((a + n) ∷ []) ∙ ap (λ k. sum_by g (range_with_len a n) + k) (sum_by-one g (a + n))
+pub sum_by_range_more : (g : ℕ → ℕ) (a n : ℕ) → sum_by g (range_with_len a (n + 1)) ≡ sum_by g (range_with_len a n) + g (a + n)
+sum_by_range_more g a n = ap (sum_by g) (range_more a n) ∙ sum_by-append g (range_with_len a n) ((a + n) ∷ []) ∙ ap (λ k. sum_by g (range_with_len a n) + k) (sum_by_one g (a + n))
 
 -- a sum within that of the items so far, after one item more
-pub sum_by-more-le : {X : Type 0} (f : X → ℕ) (xs : List X) (i : ℕ) (x : X) (n k : ℕ) → i < length xs → x ≡ get_or xs i x → n ≤ sum_by f (take i xs) → k ≤ f x
+pub sum_by_more_le : {X : Type 0} (f : X → ℕ) (xs : List X) (i : ℕ) (x : X) (n k : ℕ) → i < length xs → x ≡ get_or xs i x → n ≤ sum_by f (take i xs) → k ≤ f x
     → n + k ≤ sum_by f (take (i + 1) xs)
-sum_by-more-le f xs i x n k within is few more =
+sum_by_more_le f xs i x n k within is few more =
     let parts : sum_by f (take (i + 1) xs) ≡ sum_by f (take i xs) + f (get_or xs i x) =
-    ap (sum_by f) (take_more xs i x within) ∙ sum_by-append f (take i xs) (get_or xs i x ∷ []) ∙ ap (λ k. sum_by f (take i xs) + k) (sum_by-one f (get_or xs i x)) in
+    ap (sum_by f) (take_more xs i x within) ∙ sum_by-append f (take i xs) (get_or xs i x ∷ []) ∙ ap (λ k. sum_by f (take i xs) + k) (sum_by_one f (get_or xs i x)) in
     omega (arith, parts, ap f is)
 
 -- a list within its limit, after one more
-pub length-push-le : {X : Type 0} (xs ys : List X) (n : ℕ) (x : X) → length xs ≤ n → ys ≡ xs ++ x ∷ [] → length ys ≤ n + 1
-length-push-le xs ys n x few pushed = omega (arith, ap length pushed, length-append xs (x ∷ []))
+pub length_push_le : {X : Type 0} (xs ys : List X) (n : ℕ) (x : X) → length xs ≤ n → ys ≡ xs ++ x ∷ [] → length ys ≤ n + 1
+length_push_le xs ys n x few pushed = omega (arith, ap length pushed, length-append xs (x ∷ []))
 
 -- how long a table is
 pub length_table : {X : Type 0} (f : ℕ → X) (xs : List X) (n : ℕ) → xs ≡ map f (range_with_len 0 n) → length xs ≡ n
@@ -65,9 +65,9 @@ pub table_row : {X : Type 0} (f : ℕ → X) (xs : List X) (n t : ℕ) (x : X) �
 table_row f xs n t x is within read = read ∙ ap (λ l. get_or l t x) is ∙ get_or-map-range_with_len f 0 n t t x within (zero-add t)
 
 -- a sum within that of the items so far, and one item more, are within the whole
-pub sum_by-next-lt : {X : Type 0} (f : X → ℕ) (xs : List X) (i n most : ℕ) (x : X) → i < length xs → x ≡ get_or xs i x → n ≤ sum_by f (take i xs)
+pub sum_by_next_lt : {X : Type 0} (f : X → ℕ) (xs : List X) (i n most : ℕ) (x : X) → i < length xs → x ≡ get_or xs i x → n ≤ sum_by f (take i xs)
     → sum_by f xs < most → n + f x < most
-sum_by-next-lt f xs i n most x within is few all = omega (arith, sum_by_more_le f xs i x within, ap f is)
+sum_by_next_lt f xs i n most x within is few all = omega (arith, sum_by_more_le f xs i x within, ap f is)
 
 -- the same where each row is seen through a function
 pub table_map_row : {X Y : Type 0} (h : Y → X) (f : ℕ → X) (ys : List Y) (n t : ℕ) (y : Y) → map h ys ≡ map f (range_with_len 0 n) → t < n → y ≡ get_or ys t y → h y ≡ f t

@@ -14,7 +14,7 @@ use Rattle.type_taxonomy.specs.Nearest.{nearest, attribute_narrows_nearest, port
 use Rattle.type_taxonomy.specs.TypeForest.{IsForest}
 use Rattle.type_taxonomy.proofs.BoolFacts.{and_parts}
 use Rattle.type_taxonomy.proofs.DistinctNames.{no_port, no_attribute}
-use Rattle.type_taxonomy.proofs.Inherited.{placed_above, is_none-map, map_or-map, attribute_told, port_told}
+use Rattle.type_taxonomy.proofs.Inherited.{placed_above, is_none_map, map_or_map, attribute_told, port_told}
 use Rattle.type_taxonomy.proofs.NearestLaws.{kinds_of, first_named, above_nearest}
 use Rattle.type_taxonomy.proofs.Sorts.{either_attribute, either_port, nearest_told, has_of, none_above}
 
@@ -45,9 +45,9 @@ module _ (m : Model) (forest : IsForest m.types) where
       let ports = placed_above (λ e. e.ports) (λ p. p.name) m.types d.parent a.name in
       let attributes = placed_above (λ e. e.attributes) (λ b. b.name) m.types d.parent a.name in
       attribute_told m d a (is_none (first_port m t a.name)) (option_map_or (λ b. narrows_domain a.domain b.domain) (first_attribute m t a.name) true)
-      (ap is_none (sym (above_nearest (λ e. e.ports) (λ p. p.name) m.types t d a.name forest is_type)) ∙ is_none-map (λ e. e.what.1) ports)
+      (ap is_none (sym (above_nearest (λ e. e.ports) (λ p. p.name) m.types t d a.name forest is_type)) ∙ is_none_map (λ e. e.what.1) ports)
       (ap (λ o. option_map_or (λ b. narrows_domain a.domain b.domain) o true) (sym (above_nearest (λ e. e.attributes) (λ b. b.name) m.types t d a.name forest is_type))
-      ∙ map_or-map (λ b. narrows_domain a.domain b.domain) (λ e. e.what.1) attributes true)
+      ∙ map_or_map (λ b. narrows_domain a.domain b.domain) (λ e. e.what.1) attributes true)
 
   attribute_same : (t : ℕ) (d : TypeDecl) (a : AttrDecl) → Has m.types t d → first_port m t a.name ≡ None → attribute_narrows_nearest m t a ≡ attribute_narrows m d a
   attribute_same t d a is_type none =
@@ -88,9 +88,9 @@ module _ (m : Model) (forest : IsForest m.types) where
       let ports = placed_above (λ e. e.ports) (λ q. q.name) m.types d.parent p.name in
       let attributes = placed_above (λ e. e.attributes) (λ a. a.name) m.types d.parent p.name in
       port_told m d p (is_none (first_attribute m t p.name)) (option_map_or (within_port p) (first_port m t p.name) true)
-      (ap is_none (sym (above_nearest (λ e. e.attributes) (λ a. a.name) m.types t d p.name forest is_type)) ∙ is_none-map (λ e. e.what.1) attributes)
+      (ap is_none (sym (above_nearest (λ e. e.attributes) (λ a. a.name) m.types t d p.name forest is_type)) ∙ is_none_map (λ e. e.what.1) attributes)
       (ap (λ o. option_map_or (within_port p) o true) (sym (above_nearest (λ e. e.ports) (λ q. q.name) m.types t d p.name forest is_type))
-      ∙ map_or-map (within_port p) (λ e. e.what.1) ports true)
+      ∙ map_or_map (within_port p) (λ e. e.what.1) ports true)
 
   port_same : (t : ℕ) (d : TypeDecl) (p : PortDecl) → Has m.types t d → first_attribute m t p.name ≡ None → port_narrows_nearest m t p ≡ port_narrows m d p
   port_same t d p is_type none =

@@ -9,13 +9,13 @@ use Rattle.prod_model.specs.declared.model.TypeDecl.{TypeDecl}
 use Rattle.prod_model.specs.Forest.{line, line_within, ancestors}
 use Rattle.prod_model.specs.Names.{same_text}
 use Rattle.prod_model.specs.Taxonomy.{Named, declarations_of, kept_entry, new_declarations, first_id, extended_entries}
-use Rattle.prod_model.proofs.NameLaws.{same_text-symm}
+use Rattle.prod_model.proofs.NameLaws.{same_text_symm}
 use Rattle.type_taxonomy.specs.Entries.{placed, placed_again, is_new_among, numbered, narrowed_by, new_of, placed_of}
 use Rattle.type_taxonomy.specs.TypeForest.{IsForest}
-use Rattle.type_taxonomy.proofs.Filling.{length-line-parent}
-use Rattle.type_taxonomy.proofs.ForestLaws.{line-step, placed_of-step}
-use Rattle.type_taxonomy.proofs.Inherited.{find-map-cons, placed_above}
-use Rattle.type_taxonomy.proofs.RowLaws.{find-passes}
+use Rattle.type_taxonomy.proofs.Filling.{length_line_parent}
+use Rattle.type_taxonomy.proofs.ForestLaws.{line_step, placed_of_step}
+use Rattle.type_taxonomy.proofs.Inherited.{find_map_cons, placed_above}
+use Rattle.type_taxonomy.proofs.RowLaws.{find_passes}
 
 -- ---- the types of a line
 
@@ -23,19 +23,19 @@ abbrev pub kinds_of : List TypeDecl → List ℕ → List TypeDecl
 kinds_of types line = filter_map (slice_get types) line
 
 -- the ancestors of a type are its parent's line
-pub ancestors-step : (types : List TypeDecl) (t : ℕ) (d : TypeDecl) → IsForest types → slice_get types t ≡ Some d → ancestors types t ≡ option_map_or (line types) d.parent []
-ancestors-step types t d forest is_type = ap (drop 1) (line-step types t d is_type (forest.ends t (slice_get_within types t d is_type)))
+pub ancestors_step : (types : List TypeDecl) (t : ℕ) (d : TypeDecl) → IsForest types → slice_get types t ≡ Some d → ancestors types t ≡ option_map_or (line types) d.parent []
+ancestors_step types t d forest is_type = ap (drop 1) (line_step types t d is_type (forest.ends t (slice_get_within types t d is_type)))
 
 -- the types of a line are the type, and then those of its parent's line
-pub kinds-step : (types : List TypeDecl) (t : ℕ) (d : TypeDecl) → IsForest types → slice_get types t ≡ Some d
+pub kinds_step : (types : List TypeDecl) (t : ℕ) (d : TypeDecl) → IsForest types → slice_get types t ≡ Some d
     → kinds_of types (line types t) ≡ d ∷ kinds_of types (option_map_or (line types) d.parent [])
-kinds-step types t d forest is_type =
-    ap (kinds_of types) (line-step types t d is_type (forest.ends t (slice_get_within types t d is_type)))
+kinds_step types t d forest is_type =
+    ap (kinds_of types) (line_step types t d is_type (forest.ends t (slice_get_within types t d is_type)))
     ∙ ap (λ o. cons_option o (kinds_of types (option_map_or (line types) d.parent []))) is_type
 
 -- no line starts where there is no type
-pub line-none : (types : List TypeDecl) (t : ℕ) → slice_get types t ≡ None → line types t ≡ []
-line-none types t none = ap (λ o. option_map_or (λ d. t ∷ option_map_or (line_within (length types) types) d.parent []) o []) none
+pub line_none : (types : List TypeDecl) (t : ℕ) → slice_get types t ≡ None → line types t ≡ []
+line_none types t none = ap (λ o. option_map_or (λ d. t ∷ option_map_or (line_within (length types) types) d.parent []) o []) none
 
 pub or_none : {A : Type 0} (o p : Option A) → option_or o p ≡ None → (o ≡ None) × (p ≡ None)
 or_none None p none = (refl, none)
@@ -58,51 +58,51 @@ module _ {D : Type 0} (declared : TypeDecl → List D) (name_of : D → List ℕ
   kept_name e (Some d) = refl
 
   -- a narrowing keeps the names, so a search finds the same entry, narrowed
-  find-kept : (ds : List D) (name : List ℕ) (es : List (Named (ℕ × D))) → find (λ e. same_text e.name name) (narrowed_by declared name_of ds es)
+  find_kept : (ds : List D) (name : List ℕ) (es : List (Named (ℕ × D))) → find (λ e. same_text e.name name) (narrowed_by declared name_of ds es)
       ≡ option_map (kept_entry declared name_of (placed declared name_of) (placed_again declared name_of) ds) (find (λ e. same_text e.name name) es)
-  find-kept ds name [] = refl
-  find-kept ds name (e ∷ es) =
+  find_kept ds name [] = refl
+  find_kept ds name (e ∷ es) =
       let keep = kept_entry declared name_of (placed declared name_of) (placed_again declared name_of) ds in
       let same : same_text (keep e).name name ≡ same_text e.name name = ap (λ n. same_text n name) (kept_name e (of_name e.name ds)) in
       ap (λ b. cond b (Some (keep e)) (find (λ x. same_text x.name name) (map keep es))) same
-      ∙ find-map-cons keep (same_text e.name name) e (find (λ x. same_text x.name name) (map keep es)) (find (λ x. same_text x.name name) es) (find-kept ds name es)
+      ∙ find_map_cons keep (same_text e.name name) e (find (λ x. same_text x.name name) (map keep es)) (find (λ x. same_text x.name name) es) (find_kept ds name es)
 
   kept_what : (e : Named (ℕ × D)) (found : Option D)
       → Some (option_map_or (λ d. record { name = e.name; what = (e.what.0, d) }) found e).what.1 ≡ option_or found (Some e.what.1)
   kept_what e None = refl
   kept_what e (Some d) = refl
 
-  numbered-cons : (b : Bool) (id : ℕ) (d : D) (rest : Option (Named (ℕ × D))) (later : Option D) → option_map (λ e. e.what.1) rest ≡ later
+  numbered_cons : (b : Bool) (id : ℕ) (d : D) (rest : Option (Named (ℕ × D))) (later : Option D) → option_map (λ e. e.what.1) rest ≡ later
       → option_map (λ e. e.what.1) (cond b (Some (record { name = name_of d; what = (id, d) })) rest) ≡ cond b (Some d) later
-  numbered-cons true id d rest later same = refl
-  numbered-cons false id d rest later same = same
+  numbered_cons true id d rest later same = refl
+  numbered_cons false id d rest later same = same
 
-  find-numbered : (name : List ℕ) (id : ℕ) (ds : List D) → option_map (λ e. e.what.1) (find (λ e. same_text e.name name) (numbered declared name_of id ds)) ≡ of_name name ds
-  find-numbered name id [] = refl
-  find-numbered name id (d ∷ ds) =
-      numbered-cons (same_text (name_of d) name) id d (find (λ e. same_text e.name name) (numbered declared name_of (id + 1) ds)) (of_name name ds) (find-numbered name (id + 1) ds)
+  find_numbered : (name : List ℕ) (id : ℕ) (ds : List D) → option_map (λ e. e.what.1) (find (λ e. same_text e.name name) (numbered declared name_of id ds)) ≡ of_name name ds
+  find_numbered name id [] = refl
+  find_numbered name id (d ∷ ds) =
+      numbered_cons (same_text (name_of d) name) id d (find (λ e. same_text e.name name) (numbered declared name_of (id + 1) ds)) (of_name name ds) (find_numbered name (id + 1) ds)
 
-  filtered-cons : (p q : Bool) (test : D → Bool) (d : D) (rest : List D) (later : Option D) → test d ≡ q → (q ≡ true → p ≡ true) → find test rest ≡ later
+  filtered_cons : (p q : Bool) (test : D → Bool) (d : D) (rest : List D) (later : Option D) → test d ≡ q → (q ≡ true → p ≡ true) → find test rest ≡ later
       → find test (cond p (d ∷ rest) rest) ≡ cond q (Some d) later
-  filtered-cons true q test d rest later is passes same = ap (λ b. cond b (Some d) (find test rest)) is ∙ ap (cond q (Some d)) same
-  filtered-cons false true test d rest later is passes same = let never = passes refl in cc
-  filtered-cons false false test d rest later is passes same = same
+  filtered_cons true q test d rest later is passes same = ap (λ b. cond b (Some d) (find test rest)) is ∙ ap (cond q (Some d)) same
+  filtered_cons false true test d rest later is passes same = let never = passes refl in cc
+  filtered_cons false false test d rest later is passes same = same
 
   -- a search of what passes another test, where all that it looks for does
-  find-filter : (p test : D → Bool) (ds : List D) → ((d : D) → test d ≡ true → p d ≡ true) → find test (filter p ds) ≡ find test ds
-  find-filter p test [] passes = refl
-  find-filter p test (d ∷ ds) passes = filtered-cons (p d) (test d) test d (filter p ds) (find test ds) refl (passes d) (find-filter p test ds passes)
+  find_filter : (p test : D → Bool) (ds : List D) → ((d : D) → test d ≡ true → p d ≡ true) → find test (filter p ds) ≡ find test ds
+  find_filter p test [] passes = refl
+  find_filter p test (d ∷ ds) passes = filtered_cons (p d) (test d) test d (filter p ds) (find test ds) refl (passes d) (find_filter p test ds passes)
 
-  of_name-cons : (b : Bool) (d : D) (later : Option D) (any : Bool) → cond b (Some d) later ≡ None → (later ≡ None → any ≡ false) → (b || any) ≡ false
-  of_name-cons true d later any none rest = cc
-  of_name-cons false d later any none rest = rest none
+  of_name_cons : (b : Bool) (d : D) (later : Option D) (any : Bool) → cond b (Some d) later ≡ None → (later ≡ None → any ≡ false) → (b || any) ≡ false
+  of_name_cons true d later any none rest = cc
+  of_name_cons false d later any none rest = rest none
 
   -- none of the declarations has the name
   undeclared : (name : List ℕ) (ds : List D) → of_name name ds ≡ None → list_any (λ e. same_text name (name_of e)) ds ≡ false
   undeclared name [] none = refl
   undeclared name (d ∷ ds) none =
-      ap (λ b. b || list_any (λ e. same_text name (name_of e)) ds) (same_text-symm name (name_of d))
-      ∙ of_name-cons (same_text (name_of d) name) d (of_name name ds) (list_any (λ e. same_text name (name_of e)) ds) none (undeclared name ds)
+      ap (λ b. b || list_any (λ e. same_text name (name_of e)) ds) (same_text_symm name (name_of d))
+      ∙ of_name_cons (same_text (name_of d) name) d (of_name name ds) (list_any (λ e. same_text name (name_of e)) ds) none (undeclared name ds)
 
   any_false : (a b : Bool) → a ≡ false → b ≡ false → (a || b) ≡ false
   any_false a b first second = ap (λ x. x || b) first ∙ second
@@ -136,8 +136,8 @@ module _ {D : Type 0} (declared : TypeDecl → List D) (name_of : D → List ℕ
       let fresh : (e : D) → same_text (name_of e) name ≡ true → is_new_among declared name_of types (ancestors types t) e ≡ true = λ e same.
       let equal : name ≡ name_of e = sym (text_of_same (name_of e) name (sym same)) in
       ap not (undeclared_along types (name_of e) (ancestors types t) (subst (λ n. first_named n (kinds_of types (ancestors types t)) ≡ None) equal none)) in
-      find-numbered name (first_id declared name_of types t) (new_declarations declared name_of types t)
-      ∙ find-filter (is_new_among declared name_of types (ancestors types t)) (λ e. same_text (name_of e) name) (declarations_of declared name_of types t) fresh
+      find_numbered name (first_id declared name_of types t) (new_declarations declared name_of types t)
+      ∙ find_filter (is_new_among declared name_of types (ancestors types t)) (λ e. same_text (name_of e) name) (declarations_of declared name_of types t) fresh
       ∙ ap (λ o. of_name name (option_map_or declared o [])) is_type
 
   or_with_none : (o : Option D) → option_or o None ≡ o
@@ -153,19 +153,19 @@ module _ {D : Type 0} (declared : TypeDecl → List D) (name_of : D → List ℕ
       let none : above ≡ None = sym is_above in
       ap (option_map (λ e. e.what.1)) (find-append (λ e. same_text e.name name) (narrowed_by declared name_of ds inherited) new
       ∙ ap (λ o. option_or o (find (λ e. same_text e.name name) new))
-      (find-kept ds name inherited ∙ ap (option_map (kept_entry declared name_of (placed declared name_of) (placed_again declared name_of) ds)) is))
+      (find_kept ds name inherited ∙ ap (option_map (kept_entry declared name_of (placed declared name_of) (placed_again declared name_of) ds)) is))
       ∙ is_new none ∙ sym (or_with_none (of_name name ds)) ∙ ap (option_or (of_name name ds)) is_above
   under_both ds name inherited new above (Some e) is is_above is_new =
-      let same : e.name ≡ name = text_of_same e.name name (sym (find-passes (λ x. same_text x.name name) inherited e is)) in
+      let same : e.name ≡ name = text_of_same e.name name (sym (find_passes (λ x. same_text x.name name) inherited e is)) in
       ap (option_map (λ x. x.what.1)) (find-append (λ x. same_text x.name name) (narrowed_by declared name_of ds inherited) new
       ∙ ap (λ o. option_or o (find (λ x. same_text x.name name) new))
-      (find-kept ds name inherited ∙ ap (option_map (kept_entry declared name_of (placed declared name_of) (placed_again declared name_of) ds)) is))
+      (find_kept ds name inherited ∙ ap (option_map (kept_entry declared name_of (placed declared name_of) (placed_again declared name_of) ds)) is))
       ∙ kept_what e (of_name e.name ds) ∙ ap (λ n. option_or (of_name n ds) (Some e.what.1)) same ∙ ap (option_or (of_name name ds)) is_above
 
   entries_none : (types : List TypeDecl) (t : ℕ) → slice_get types t ≡ None → placed_of declared name_of types t ≡ []
   unfolding placed_of
   entries_none types t none =
-      ap (λ l. fold (extended_entries declared name_of (placed declared name_of) (placed_again declared name_of) types) [] (reverse l)) (line-none types t none)
+      ap (λ l. fold (extended_entries declared name_of (placed declared name_of) (placed_again declared name_of) types) [] (reverse l)) (line_none types t none)
 
   under_parent : (types : List TypeDecl) (name : List ℕ) (parent : Option ℕ)
       → ((p : ℕ) → parent ≡ Some p → under_name name (placed_of declared name_of types p) ≡ first_named name (kinds_of types (line types p)))
@@ -178,24 +178,24 @@ module _ {D : Type 0} (declared : TypeDecl → List D) (name_of : D → List ℕ
       → ((p : ℕ) (d : TypeDecl) → kind ≡ Some d → d.parent ≡ Some p → under_name name (placed_of declared name_of types p) ≡ first_named name (kinds_of types (line types p)))
       → under_name name (placed_of declared name_of types t) ≡ first_named name (kinds_of types (line types t))
   under_at types t name None forest is_type each =
-      ap (under_name name) (entries_none types t is_type) ∙ sym (ap (λ l. first_named name (kinds_of types l)) (line-none types t is_type))
+      ap (under_name name) (entries_none types t is_type) ∙ sym (ap (λ l. first_named name (kinds_of types l)) (line_none types t is_type))
   under_at types t name (Some d) forest is_type each =
       let inherited = option_map_or (placed_of declared name_of types) d.parent [] in
       let above = first_named name (kinds_of types (option_map_or (line types) d.parent [])) in
-      ap (under_name name) (placed_of-step declared name_of types t d is_type (forest.ends t (slice_get_within types t d is_type)))
+      ap (under_name name) (placed_of_step declared name_of types t d is_type (forest.ends t (slice_get_within types t d is_type)))
       ∙ under_both (declared d) name inherited (new_of declared name_of types t) above (find (λ e. same_text e.name name) inherited) refl
       (under_parent types name d.parent (λ p is_parent. each p d refl is_parent))
-      (λ none. new_under types t d name is_type (ap (λ l. first_named name (kinds_of types l)) (ancestors-step types t d forest is_type) ∙ none))
-      ∙ sym (ap (first_named name) (kinds-step types t d forest is_type))
+      (λ none. new_under types t d name is_type (ap (λ l. first_named name (kinds_of types l)) (ancestors_step types t d forest is_type) ∙ none))
+      ∙ sym (ap (first_named name) (kinds_step types t d forest is_type))
 
   under_line : (types : List TypeDecl) (n t : ℕ) (name : List ℕ) → IsForest types → length (line types t) ≤ n
       → under_name name (placed_of declared name_of types t) ≡ first_named name (kinds_of types (line types t))
   under_line types zero t name forest short =
       under_at types t name (slice_get types t) forest refl
-      (λ p d is_type is_parent. absurd (omega (arith, length-line-parent types t p d is_type (forest.ends t (slice_get_within types t d is_type)) is_parent)))
+      (λ p d is_type is_parent. absurd (omega (arith, length_line_parent types t p d is_type (forest.ends t (slice_get_within types t d is_type)) is_parent)))
   under_line types (suc n) t name forest short =
       under_at types t name (slice_get types t) forest refl
-      (λ p d is_type is_parent. under_line types n p name forest (omega (arith, length-line-parent types t p d is_type (forest.ends t (slice_get_within types t d is_type)) is_parent)))
+      (λ p d is_type is_parent. under_line types n p name forest (omega (arith, length_line_parent types t p d is_type (forest.ends t (slice_get_within types t d is_type)) is_parent)))
 
   above_parent : (types : List TypeDecl) (parent : Option ℕ) (name : List ℕ) → IsForest types
       → option_map (λ e. e.what.1) (placed_above declared name_of types parent name) ≡ first_named name (kinds_of types (option_map_or (line types) parent []))
@@ -206,4 +206,4 @@ module _ {D : Type 0} (declared : TypeDecl → List D) (name_of : D → List ℕ
   pub above_nearest : (types : List TypeDecl) (t : ℕ) (d : TypeDecl) (name : List ℕ) → IsForest types → slice_get types t ≡ Some d
       → option_map (λ e. e.what.1) (placed_above declared name_of types d.parent name) ≡ first_named name (kinds_of types (ancestors types t))
   above_nearest types t d name forest is_type =
-      above_parent types d.parent name forest ∙ ap (λ l. first_named name (kinds_of types l)) (sym (ancestors-step types t d forest is_type))
+      above_parent types d.parent name forest ∙ ap (λ l. first_named name (kinds_of types l)) (sym (ancestors_step types t d forest is_type))

@@ -8,21 +8,21 @@ use Rattle.prod_model.specs.Forest.{line}
 use Rattle.prod_model.specs.Taxonomy.{first_id, new_declarations}
 use Rattle.type_taxonomy.specs.declared.entry.Entry.{Entry}
 use Rattle.type_taxonomy.specs.Entries.{named, is_new_among, numbered}
-use Rattle.type_taxonomy.proofs.Items.{filter_more, sum_by-range_more, length-filter-le}
+use Rattle.type_taxonomy.proofs.Items.{filter_more, sum_by_range_more, length_filter_le}
 
 module _ {D : Type 0} (declared : TypeDecl → List D) (name_of : D → List ℕ) where
-  pub length-numbered : (id : ℕ) (ds : List D) → length (numbered declared name_of id ds) ≡ length ds
-  length-numbered id [] = refl
-  length-numbered id (d ∷ ds) = ap suc (length-numbered (id + 1) ds)
+  pub length_numbered : (id : ℕ) (ds : List D) → length (numbered declared name_of id ds) ≡ length ds
+  length_numbered id [] = refl
+  length_numbered id (d ∷ ds) = ap suc (length_numbered (id + 1) ds)
 
   -- the last of them has the last id
-  pub numbered-push : (id : ℕ) (ds : List D) (d : D)
+  pub numbered_push : (id : ℕ) (ds : List D) (d : D)
       → numbered declared name_of id (ds ++ d ∷ []) ≡ numbered declared name_of id ds ++ record { name = name_of d; what = (id + length ds, d) } ∷ []
-  numbered-push id [] d = ap (λ k. record { name = name_of d; what = (k, d) } ∷ []) (sym (add-zero id))
-  numbered-push id (e ∷ ds) d =
+  numbered_push id [] d = ap (λ k. record { name = name_of d; what = (k, d) } ∷ []) (sym (add-zero id))
+  numbered_push id (e ∷ ds) d =
       let same : (id + 1) + length ds ≡ id + suc (length ds) = omega arith in
       ap (λ l. record { name = name_of e; what = (id, e) } ∷ l)
-      (numbered-push (id + 1) ds d ∙ ap (λ k. numbered declared name_of (id + 1) ds ++ record { name = name_of d; what = (k, d) } ∷ []) same)
+      (numbered_push (id + 1) ds d ∙ ap (λ k. numbered declared name_of (id + 1) ds ++ record { name = name_of d; what = (k, d) } ∷ []) same)
 
   -- a declaration that is new goes to the end of the row
   pub numbered_more : (first : ℕ) (p : D → Bool) (ds : List D) (i : ℕ) (row after : List (Entry D)) (e : Entry D) → i < length ds
@@ -32,12 +32,12 @@ module _ {D : Type 0} (declared : TypeDecl → List D) (name_of : D → List ℕ
   numbered_more first p ds i row after e within is passes is_id so_far pushed =
       let d = e.declared.now in
       let kept = filter p (take i ds) in
-      let size : length row ≡ length kept = sym (length-map row (named name_of)) ∙ ap length so_far ∙ length-numbered first kept in
+      let size : length row ≡ length kept = sym (length-map row (named name_of)) ∙ ap length so_far ∙ length_numbered first kept in
       let more : filter p (take (i + 1) ds) ≡ kept ++ d ∷ [] = filter_more p ds i d within is ∙ ap (λ b. kept ++ cond b (d ∷ []) []) passes in
       ap (map (named name_of)) pushed ∙ map-append (named name_of) row (e ∷ [])
       ∙ ap (λ l. l ++ named name_of e ∷ []) so_far
       ∙ ap (λ k. numbered declared name_of first kept ++ record { name = name_of d; what = (k, d) } ∷ []) (is_id ∙ ap (λ k. first + k) size)
-      ∙ sym (numbered-push first kept d) ∙ ap (numbered declared name_of first) (sym more)
+      ∙ sym (numbered_push first kept d) ∙ ap (numbered declared name_of first) (sym more)
 
   -- and one that is not new is passed over
   pub numbered_same : (first : ℕ) (p : D → Bool) (ds : List D) (i : ℕ) (row : List (Entry D)) (d : D) → i < length ds → d ≡ get_or ds i d → p d ≡ false
@@ -57,15 +57,15 @@ module _ {D : Type 0} (declared : TypeDecl → List D) (name_of : D → List ℕ
 
   -- a row of what is new has as many entries, and no more than there are declarations
   pub length_new : (first : ℕ) (ds : List D) (row : List (Entry D)) → map (named name_of) row ≡ numbered declared name_of first ds → length row ≡ length ds
-  length_new first ds row is = sym (length-map row (named name_of)) ∙ ap length is ∙ length-numbered first ds
+  length_new first ds row is = sym (length-map row (named name_of)) ∙ ap length is ∙ length_numbered first ds
 
-  pub length_new-le : (first : ℕ) (p : D → Bool) (ds : List D) (row : List (Entry D)) (size : ℕ) → size ≡ length row
+  pub length_new_le : (first : ℕ) (p : D → Bool) (ds : List D) (row : List (Entry D)) (size : ℕ) → size ≡ length row
       → map (named name_of) row ≡ numbered declared name_of first (filter p ds) → size ≤ length ds
-  length_new-le first p ds row size is_size is = omega (arith, length_new first (filter p ds) row is, length-filter-le p ds)
+  length_new_le first p ds row size is_size is = omega (arith, length_new first (filter p ds) row is, length_filter_le p ds)
 
   -- the ids of the next type begin after those of this one
   pub first_id_more : (types : List TypeDecl) (t next size : ℕ) → next ≡ first_id declared name_of types t → size ≡ length (new_declarations declared name_of types t)
       → next + size ≡ first_id declared name_of types (t + 1)
   first_id_more types t next size is_next is_size =
       let each = λ (u : ℕ). length (new_declarations declared name_of types u) in
-      ap (λ k. k + size) is_next ∙ ap (λ k. first_id declared name_of types t + k) (is_size ∙ ap each (sym (zero-add t))) ∙ sym (sum_by-range_more each 0 t)
+      ap (λ k. k + size) is_next ∙ ap (λ k. first_id declared name_of types t + k) (is_size ∙ ap each (sym (zero-add t))) ∙ sym (sum_by_range_more each 0 t)

@@ -11,16 +11,16 @@ use Rattle.type_taxonomy.specs.declared.entry.Entry.{Entry}
 use Rattle.type_taxonomy.specs.ByName.{found_at}
 use Rattle.type_taxonomy.specs.Entries.{named, placed, placed_again, narrowed_by}
 
-cond-passes : {X : Type 0} (p : X → Bool) (b : Bool) (y x : X) (rest : Option X) → p y ≡ b → (rest ≡ Some x → p x ≡ true) → cond b (Some y) rest ≡ Some x → p x ≡ true
-cond-passes p true y x rest is later found =
+cond_passes : {X : Type 0} (p : X → Bool) (b : Bool) (y x : X) (rest : Option X) → p y ≡ b → (rest ≡ Some x → p x ≡ true) → cond b (Some y) rest ≡ Some x → p x ≡ true
+cond_passes p true y x rest is later found =
     let same : y ≡ x = cc in
     ap p (sym same) ∙ is
-cond-passes p false y x rest is later found = later found
+cond_passes p false y x rest is later found = later found
 
 -- what a search finds passes the test
-pub find-passes : {X : Type 0} (p : X → Bool) (xs : List X) (x : X) → find p xs ≡ Some x → p x ≡ true
-find-passes p [] x found = cc
-find-passes p (y ∷ ys) x found = cond-passes p (p y) y x (find p ys) refl (find-passes p ys x) found
+pub find_passes : {X : Type 0} (p : X → Bool) (xs : List X) (x : X) → find p xs ≡ Some x → p x ≡ true
+find_passes p [] x found = cc
+find_passes p (y ∷ ys) x found = cond_passes p (p y) y x (find p ys) refl (find_passes p ys x) found
 
 module _ {D : Type 0} (declared : TypeDecl → List D) (name_of : D → List ℕ) where
   narrowed_by_found : (ds : List D) (e after : Entry D) (found : Option D) → find (λ d. same_text (name_of d) (name_of e.declared.now)) ds ≡ found → after.id ≡ e.id
@@ -29,15 +29,15 @@ module _ {D : Type 0} (declared : TypeDecl → List D) (name_of : D → List ℕ
   narrowed_by_found ds e after None found is_id is =
       ap (λ d. record { name = name_of d; what = (after.id, d) }) is ∙ ap (λ k. record { name = name_of e.declared.now; what = (k, e.declared.now) }) is_id
   narrowed_by_found ds e after (Some d) found is_id is =
-      let same : name_of d ≡ name_of e.declared.now = text_of_same _ _ (sym (find-passes (λ x. same_text (name_of x) (name_of e.declared.now)) ds d found)) in
+      let same : name_of d ≡ name_of e.declared.now = text_of_same _ _ (sym (find_passes (λ x. same_text (name_of x) (name_of e.declared.now)) ds d found)) in
       ap (λ x. record { name = name_of x; what = (after.id, x) }) is ∙ ap (λ n. record { name = n; what = (after.id, d) }) same
       ∙ ap (λ k. record { name = name_of e.declared.now; what = (k, d) }) is_id
 
   -- an entry with the declaration that is found under its name, if there is one, is the entry narrowed
-  pub named-narrowed : (ds : List D) (e after : Entry D) (found : Option (ℕ × D)) → after.id ≡ e.id → after.declared.now ≡ option_map_or (λ f. f.1) found e.declared.now
+  pub named_narrowed : (ds : List D) (e after : Entry D) (found : Option (ℕ × D)) → after.id ≡ e.id → after.declared.now ≡ option_map_or (λ f. f.1) found e.declared.now
       → found ≡ found_at name_of 1 ds (name_of e.declared.now)
       → named name_of after ≡ kept_entry declared name_of (placed declared name_of) (placed_again declared name_of) ds (named name_of e)
-  named-narrowed ds e after found is_id is is_found =
+  named_narrowed ds e after found is_id is is_found =
       narrowed_by_found ds e after (find (λ d. same_text (name_of d) (name_of e.declared.now)) ds) refl is_id
       (is ∙ ap (λ o. option_map_or (λ (f : ℕ × D). f.1) o e.declared.now) is_found)
 

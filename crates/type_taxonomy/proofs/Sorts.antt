@@ -10,15 +10,15 @@ use Rattle.prod_model.specs.Forest.{line, ancestors}
 use Rattle.prod_model.specs.Names.{same_text}
 use Rattle.type_taxonomy.specs.Nearest.{declares}
 use Rattle.type_taxonomy.specs.TypeForest.{IsForest}
-use Rattle.type_taxonomy.proofs.Filling.{length-line-parent}
-use Rattle.type_taxonomy.proofs.NearestLaws.{kinds_of, of_name, first_named, ancestors-step, kinds-step, line-none, or_none}
-use Rattle.type_taxonomy.proofs.RowLaws.{find-passes}
+use Rattle.type_taxonomy.proofs.Filling.{length_line_parent}
+use Rattle.type_taxonomy.proofs.NearestLaws.{kinds_of, of_name, first_named, ancestors_step, kinds_step, line_none, or_none}
+use Rattle.type_taxonomy.proofs.RowLaws.{find_passes}
 
 -- ---- a search that finds something
 
 found_at : {A : Type 0} (p : A → Bool) (xs : List A) (o : Option A) → find p xs ≡ o → is_some o ≡ true → (k : ℕ) × (x : A) × (slice_get xs k ≡ Some x) × (p x ≡ true)
 found_at p xs None is some = cc
-found_at p xs (Some x) is some = (position_or_len p xs, x, sym (find_at p xs) ∙ is, find-passes p xs x is)
+found_at p xs (Some x) is some = (position_or_len p xs, x, sym (find_at p xs) ∙ is, find_passes p xs x is)
 
 -- what is found stands at a place
 pub some_found : {A : Type 0} (p : A → Bool) (xs : List A) → is_some (find p xs) ≡ true → (k : ℕ) × (x : A) × (slice_get xs k ≡ Some x) × (p x ≡ true)
@@ -117,7 +117,7 @@ module _ {D E : Type 0} (declared : TypeDecl → List D) (name_of : D → List �
     steady t d name is_type some =
         let found = some_found (λ e. same_text (name_of e) name) (declared d) some in
         let equal : name_of found.1 ≡ name = text_of_same (name_of found.1) name (sym found.3) in
-        ap (λ l. nearest_has name (kinds_of types l)) (sym (ancestors-step types t d forest is_type))
+        ap (λ l. nearest_has name (kinds_of types l)) (sym (ancestors_step types t d forest is_type))
         ∙ ap (λ n. nearest_has n (kinds_of types (ancestors types t))) (sym equal) ∙ narrow t found.0 d found.1 is_type found.2
 
     stays_parent : (parent : Option ℕ) (name : List ℕ) → ((p : ℕ) → parent ≡ Some p → StaysIn name (kinds_of types (line types p)))
@@ -127,24 +127,24 @@ module _ {D E : Type 0} (declared : TypeDecl → List D) (name_of : D → List �
 
     stays_at : (t : ℕ) (name : List ℕ) (kind : Option TypeDecl) → slice_get types t ≡ kind
         → ((p : ℕ) (d : TypeDecl) → kind ≡ Some d → d.parent ≡ Some p → StaysIn name (kinds_of types (line types p))) → StaysIn name (kinds_of types (line types t))
-    stays_at t name None is_type each = subst (λ l. StaysIn name (kinds_of types l)) (sym (line-none types t is_type)) tt
+    stays_at t name None is_type each = subst (λ l. StaysIn name (kinds_of types l)) (sym (line_none types t is_type)) tt
     stays_at t name (Some d) is_type each =
-        subst (StaysIn name) (sym (kinds-step types t d forest is_type))
+        subst (StaysIn name) (sym (kinds_step types t d forest is_type))
         (λ some. (one t d name is_type some, steady t d name is_type some), stays_parent d.parent name (λ p is_parent. each p d refl is_parent))
 
     stays_within : (n t : ℕ) (name : List ℕ) → length (line types t) ≤ n → StaysIn name (kinds_of types (line types t))
     stays_within zero t name short =
         stays_at t name (slice_get types t) refl
-        (λ p d is_type is_parent. absurd (omega (arith, length-line-parent types t p d is_type (forest.ends t (slice_get_within types t d is_type)) is_parent)))
+        (λ p d is_type is_parent. absurd (omega (arith, length_line_parent types t p d is_type (forest.ends t (slice_get_within types t d is_type)) is_parent)))
     stays_within (suc n) t name short =
         stays_at t name (slice_get types t) refl
-        (λ p d is_type is_parent. stays_within n p name (omega (arith, length-line-parent types t p d is_type (forest.ends t (slice_get_within types t d is_type)) is_parent)))
+        (λ p d is_type is_parent. stays_within n p name (omega (arith, length_line_parent types t p d is_type (forest.ends t (slice_get_within types t d is_type)) is_parent)))
 
     -- no ancestor declares the name of a type's declaration in the other sort
     pub none_above : (t k : ℕ) (d : TypeDecl) (x : D) → slice_get types t ≡ Some d → slice_get (declared d) k ≡ Some x
         → first_named other other_name (name_of x) (kinds_of types (ancestors types t)) ≡ None
     none_above t k d x is_type has =
         let stays : StaysIn (name_of x) (kinds_of types (ancestors types t)) =
-        subst (λ l. StaysIn (name_of x) (kinds_of types l)) (sym (ancestors-step types t d forest is_type))
+        subst (λ l. StaysIn (name_of x) (kinds_of types l)) (sym (ancestors_step types t d forest is_type))
         (stays_parent d.parent (name_of x) (λ p is_parent. stays_within (length (line types p)) p (name_of x) (omega arith))) in
         none_of_other (name_of x) (kinds_of types (ancestors types t)) stays (narrow t k d x is_type has)

@@ -8,8 +8,8 @@ use Rattle.prod_model.specs.declared.model.Model.{Model}
 use Rattle.prod_model.specs.declared.model.TypeDecl.{TypeDecl}
 use Rattle.prod_model.specs.Forest.{is_type, is_in_circle, is_forest}
 use Rattle.prod_model.specs.Valid.{knows_types, has_known_parents, attribute_narrows, port_narrows, has_narrowings, has_distinct_names, has_room_at, has_room, IsTaxonomy}
-use Rattle.prod_model.proofs.ListLaws.{list_all-range}
-use Rattle.prod_model.proofs.ForestLines.{line-short, no_cycle}
+use Rattle.prod_model.proofs.ListLaws.{list_all_below}
+use Rattle.prod_model.proofs.ForestLines.{line_short, no_cycle}
 use Rattle.type_taxonomy.specs.declared.fault.TaxFault.{TaxFault}
 use Rattle.type_taxonomy.specs.Built.{NarrowsAll}
 use Rattle.type_taxonomy.specs.Faults.{Has, HasTaxFault, unknown_parent, cycle, wider_attribute, wider_port, crowded}
@@ -52,7 +52,7 @@ knows_parent m d p is knows =
 pub forest_is : (m : Model) → KnowsBelow m (length m.types) → HasNoCircleBelow m (length m.types) → IsForest m.types
 forest_is m known free = record {
   known = λ t p d has is. knows_parent m d p is (ap (λ o. option_map_or (knows_types m) o true) (sym has) ∙ known t (slice_get_within m.types t d has));
-  ends = λ t within. line-short m.types (no_cycle m (no_circles m free)) t;
+  ends = λ t within. line_short m.types (no_cycle m (no_circles m free)) t;
 }
 
 pub taxonomy_is : (m : Model) → IsTrue (has_distinct_names m) → KnowsBelow m (length m.types) → HasNoCircleBelow m (length m.types)
@@ -72,7 +72,7 @@ knows_each m t d taxonomy has = list_all_at (knows_types m) m.types t d taxonomy
 free_each : (m : Model) (t : ℕ) → IsTaxonomy m → t < length m.types → is_in_circle m t ≡ false
 unfolding is_forest
 free_each m t taxonomy within =
-    opposite (is_in_circle m t) (ap (λ k. not (is_in_circle m k)) (sym (zero-add t)) ∙ list_all-range (λ u. not (is_in_circle m u)) 0 (length m.types) t taxonomy.forest within)
+    opposite (is_in_circle m t) (ap (λ k. not (is_in_circle m k)) (sym (zero-add t)) ∙ list_all_below (λ u. not (is_in_circle m u)) 0 (length m.types) t taxonomy.forest within)
 
 narrows_each : (m : Model) (t : ℕ) (d : TypeDecl) → IsTaxonomy m → Has m.types t d → (list_all (attribute_narrows m d) d.attributes && list_all (port_narrows m d) d.ports) ≡ true
 unfolding has_narrowings
@@ -81,12 +81,12 @@ narrows_each m t d taxonomy has =
 
 room_each : (m : Model) (t : ℕ) → IsTaxonomy m → t < length m.types → has_room_at m t ≡ true
 unfolding has_room
-room_each m t taxonomy within = ap (has_room_at m) (sym (zero-add t)) ∙ list_all-range (has_room_at m) 0 (length m.types) t taxonomy.room within
+room_each m t taxonomy within = ap (has_room_at m) (sym (zero-add t)) ∙ list_all_below (has_room_at m) 0 (length m.types) t taxonomy.room within
 
 forest_of : (m : Model) → IsTaxonomy m → IsForest m.types
 forest_of m taxonomy = record {
   known = λ t p d has is. knows_parent m d p is (knows_each m t d taxonomy has);
-  ends = λ t within. line-short m.types (no_cycle m taxonomy.forest) t;
+  ends = λ t within. line_short m.types (no_cycle m taxonomy.forest) t;
 }
 
 pub taxonomy_has_no_fault : (m : Model) (f : TaxFault) → IsTaxonomy m → HasTaxFault m f → ⊥

@@ -4,7 +4,7 @@ use Rattle.std.specs.List.{list_all}
 use Rattle.config_value.specs.Value.{links_at_instance}
 use Rattle.answer_check.specs.InstanceSets.{is_member}
 use Rattle.answer_check.proofs.FewItems.{few_shaped}
-use Rattle.answer_check.proofs.MemberLaws.{HasFoundBelow, found-with, found-without, found-all}
+use Rattle.answer_check.proofs.MemberLaws.{HasFoundBelow, found_with, found_without, found_all}
 use Rattle.answer_check.proofs.linked.linking_only.Goals as goal
 use Rattle.answer_check.proofs.linked.linking_only.Goals.{then-links_only, else-links_only}
 
@@ -18,13 +18,13 @@ loop-i-preserved c =
     elim c.if-links_only.branch [
       | then-links_only w ↦
           subst (HasFoundBelow passes (c.loop-i.i + 1)) (sym w.found-is)
-          (found-with passes c.loop-i.i c.loop-i.found w.with-found.result c.loop-i.invariant (sym c.links_only.ensures ∙ w.if-links_only.true) low w.with-found.ensures.members)
+          (found_with passes c.loop-i.i c.loop-i.found w.with-found.result c.loop-i.invariant (sym c.links_only.ensures ∙ w.if-links_only.true) low w.with-found.ensures.members)
       | else-links_only w ↦
           subst (HasFoundBelow passes (c.loop-i.i + 1)) (sym w.found-is)
-          (found-without passes c.loop-i.i c.loop-i.found c.loop-i.invariant (sym c.links_only.ensures ∙ w.if-links_only.false))
+          (found_without passes c.loop-i.i c.loop-i.found c.loop-i.invariant (sym c.links_only.ensures ∙ w.if-links_only.false))
     ]
 
 pub returns : goal.returns
 returns c =
     let passes = λ (i : ℕ). is_member c.args.among i && list_all (is_member c.args.into) (links_at_instance c.args.problem.now c.args.c.now c.args.port i) in
-    found-all passes c.loop-i.i c.loop-i.found c.loop-i.invariant (λ k yes. let within = c.requires.within k (and_parts _ _ yes).0 in omega arith)
+    found_all passes c.loop-i.i c.loop-i.found c.loop-i.invariant (λ k yes. let within = c.requires.within k (and_parts _ _ yes).0 in omega arith)

@@ -1,8 +1,8 @@
 use Rattle.std.proofs.Common.{arith}
 use Rattle.answer_check.specs.Finds.{BreaksAt}
 use Rattle.answer_check.specs.PortTests.{code_of}
-use Rattle.answer_check.proofs.Items.{no_place-next, no_place}
-use Rattle.answer_check.proofs.BrokenPorts.{broken-within}
+use Rattle.answer_check.proofs.Items.{no_place_next, no_place}
+use Rattle.answer_check.proofs.BrokenPorts.{broken_within}
 use Rattle.answer_check.proofs.FewItems.{few_instances}
 use Rattle.answer_check.proofs.links.broken_port.Goals as goal
 
@@ -11,9 +11,9 @@ overflow_cast-i-end c = omega (arith, few_instances c.args.problem.now c.args.c.
 
 pub loop-i-preserved : goal.loop-i-preserved
 loop-i-preserved c =
-    no_place-next (BreaksAt c.args.problem.now c.args.c.now (code_of c.args.test)) c.loop-i.i c.loop-i.invariant c.in_default.ensures
+    no_place_next (BreaksAt c.args.problem.now c.args.c.now (code_of c.args.test)) c.loop-i.i c.loop-i.invariant c.in_default.ensures
 
 pub returns : goal.returns
 returns c =
     no_place (BreaksAt c.args.problem.now c.args.c.now (code_of c.args.test)) c.loop-i.i c.loop-i.invariant
-    (λ i k broken. let within = broken-within c.args.problem.now c.args.c.now c.args.test i k broken in omega arith)
+    (λ i k broken. let within = broken_within c.args.problem.now c.args.c.now c.args.test i k broken in omega arith)

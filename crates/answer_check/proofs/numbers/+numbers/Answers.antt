@@ -8,7 +8,7 @@ use Rattle.std.proofs.lemmas.Option.{slice_get_read}
 use Rattle.config_value.specs.Value.{number_at}
 use Rattle.answer_check.proofs.FewItems.{few_shaped}
 use Rattle.answer_check.proofs.IntSums.{sum_next}
-use Rattle.answer_check.proofs.EvaluationLaws.{value_at-form, evaluable}
+use Rattle.answer_check.proofs.EvaluationLaws.{value_at_form, evaluable}
 use Rattle.answer_check.proofs.numbers.+numbers.Goals as goal
 
 pub number_at-sum_under-requires : goal.number_at-sum_under-requires
@@ -63,47 +63,47 @@ number_at-number_at-requires-in-Times t c =
     search (rules, the_lemmas)
 
 pub number_at-returns-in-Num : goal.number_at-returns-in-Num
-number_at-returns-in-Num t c = rw (value_at-form c.args.problem.now c.args.c.now c.args.i c.args.e.now) (search (rules, the_lemmas))
+number_at-returns-in-Num t c = rw (value_at_form c.args.problem.now c.args.c.now c.args.i c.args.e.now) (search (rules, the_lemmas))
 
 pub number_at-returns-in-Attr : goal.number_at-returns-in-Attr
-number_at-returns-in-Attr t c = rw (value_at-form c.args.problem.now c.args.c.now c.args.i c.args.e.now) (search (rules, the_lemmas))
+number_at-returns-in-Attr t c = rw (value_at_form c.args.problem.now c.args.c.now c.args.i c.args.e.now) (search (rules, the_lemmas))
 
 pub number_at-returns-in-Count : goal.number_at-returns-in-Count
-number_at-returns-in-Count t c = rw (value_at-form c.args.problem.now c.args.c.now c.args.i c.args.e.now) (search (rules, the_lemmas))
+number_at-returns-in-Count t c = rw (value_at_form c.args.problem.now c.args.c.now c.args.i c.args.e.now) (search (rules, the_lemmas))
 
 pub number_at-returns-in-CountOf : goal.number_at-returns-in-CountOf
-number_at-returns-in-CountOf t c = rw (value_at-form c.args.problem.now c.args.c.now c.args.i c.args.e.now) (search (rules, the_lemmas))
+number_at-returns-in-CountOf t c = rw (value_at_form c.args.problem.now c.args.c.now c.args.i c.args.e.now) (search (rules, the_lemmas))
 
 pub number_at-returns-in-Number : goal.number_at-returns-in-Number
-number_at-returns-in-Number t c = rw (value_at-form c.args.problem.now c.args.c.now c.args.i c.args.e.now) (search (rules, the_lemmas))
+number_at-returns-in-Number t c = rw (value_at_form c.args.problem.now c.args.c.now c.args.i c.args.e.now) (search (rules, the_lemmas))
 
 pub number_at-returns-in-Sum : goal.number_at-returns-in-Sum
 number_at-returns-in-Sum t c =
     let can = evaluable c.args.problem.now c.args.c.now c.requires.valid.declared c.requires.shaped c.args.i c.args.e.now c.requires.bounded in
-    rw (value_at-form c.args.problem.now c.args.c.now c.args.i c.args.e.now) (search (rules, the_lemmas))
+    rw (value_at_form c.args.problem.now c.args.c.now c.args.i c.args.e.now) (search (rules, the_lemmas))
 
 pub number_at-returns-in-Total : goal.number_at-returns-in-Total
 number_at-returns-in-Total t c =
     let can = evaluable c.args.problem.now c.args.c.now c.requires.valid.declared c.requires.shaped c.args.i c.args.e.now c.requires.bounded in
-    rw (value_at-form c.args.problem.now c.args.c.now c.args.i c.args.e.now) (search (rules, the_lemmas))
+    rw (value_at_form c.args.problem.now c.args.c.now c.args.i c.args.e.now) (search (rules, the_lemmas))
 
 pub number_at-returns-in-Add : goal.number_at-returns-in-Add
 number_at-returns-in-Add t c =
     let can = evaluable c.args.problem.now c.args.c.now c.requires.valid.declared c.requires.shaped c.args.i c.args.e.now c.requires.bounded in
-    rw (value_at-form c.args.problem.now c.args.c.now c.args.i c.args.e.now) (search (rules, the_lemmas))
+    rw (value_at_form c.args.problem.now c.args.c.now c.args.i c.args.e.now) (search (rules, the_lemmas))
 
 pub number_at-returns-in-Sub : goal.number_at-returns-in-Sub
 number_at-returns-in-Sub t c =
     let can = evaluable c.args.problem.now c.args.c.now c.requires.valid.declared c.requires.shaped c.args.i c.args.e.now c.requires.bounded in
-    rw (value_at-form c.args.problem.now c.args.c.now c.args.i c.args.e.now) (search (rules, the_lemmas))
+    rw (value_at_form c.args.problem.now c.args.c.now c.args.i c.args.e.now) (search (rules, the_lemmas))
 
 pub number_at-returns-in-Times : goal.number_at-returns-in-Times
 number_at-returns-in-Times t c =
     let can = evaluable c.args.problem.now c.args.c.now c.requires.valid.declared c.requires.shaped c.args.i c.args.e.now c.requires.bounded in
-    rw (value_at-form c.args.problem.now c.args.c.now c.args.i c.args.e.now) (search (rules, the_lemmas))
+    rw (value_at_form c.args.problem.now c.args.c.now c.args.i c.args.e.now) (search (rules, the_lemmas))
 
 pub number_at-returns-in_default : goal.number_at-returns-in_default
-number_at-returns-in_default t c = rw (value_at-form c.args.problem.now c.args.c.now c.args.i c.args.e.now) (search (rules, the_lemmas))
+number_at-returns-in_default t c = rw (value_at_form c.args.problem.now c.args.c.now c.args.i c.args.e.now) (search (rules, the_lemmas))
 
 pub sum_of_all-number_at-requires : goal.sum_of_all-number_at-requires
 sum_of_all-number_at-requires t c =

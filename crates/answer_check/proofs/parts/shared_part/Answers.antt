@@ -1,8 +1,8 @@
 use Rattle.std.proofs.Common.{◌<◌, arith}
 use Rattle.answer_check.specs.Finds.{BreaksAt}
 use Rattle.answer_check.proofs.FewItems.{few_instances}
-use Rattle.answer_check.proofs.Items.{no_place-next, first_place, no_place}
-use Rattle.answer_check.proofs.SharedParts.{shared-found, shared-none, shared-within}
+use Rattle.answer_check.proofs.Items.{no_place_next, first_place, no_place}
+use Rattle.answer_check.proofs.SharedParts.{shared_found, shared_none, shared_within}
 use Rattle.answer_check.proofs.parts.shared_part.Goals as goal
 
 pub seen_in-seen-requires : goal.seen_in-seen-requires
@@ -18,15 +18,15 @@ pub returns-then-is_overfull : goal.returns-then-is_overfull
 returns-then-is_overfull c =
     let low : c.loop-j.j < 64 = omega (arith, few_instances c.args.problem.now c.args.c.now c.requires) in
     first_place (BreaksAt c.args.problem.now c.args.c.now 7) c.loop-j.j 0 c.loop-j.invariant
-    (shared-found c.args.problem.now c.args.c.now c.loop-j.j low (omega arith) (grind arith))
+    (shared_found c.args.problem.now c.args.c.now c.loop-j.j low (omega arith) (grind arith))
 
 pub loop-j-preserved : goal.loop-j-preserved
 loop-j-preserved c =
     let low : c.loop-j.j < 64 = omega (arith, few_instances c.args.problem.now c.args.c.now c.requires) in
-    no_place-next (BreaksAt c.args.problem.now c.args.c.now 7) c.loop-j.j c.loop-j.invariant
-    (shared-none c.args.problem.now c.args.c.now c.loop-j.j low (grind arith))
+    no_place_next (BreaksAt c.args.problem.now c.args.c.now 7) c.loop-j.j c.loop-j.invariant
+    (shared_none c.args.problem.now c.args.c.now c.loop-j.j low (grind arith))
 
 pub returns : goal.returns
 returns c =
     no_place (BreaksAt c.args.problem.now c.args.c.now 7) c.loop-j.j c.loop-j.invariant
-    (λ i k broken. let within = shared-within c.args.problem.now c.args.c.now i k broken in omega arith)
+    (λ i k broken. let within = shared_within c.args.problem.now c.args.c.now i k broken in omega arith)

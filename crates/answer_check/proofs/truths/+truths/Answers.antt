@@ -10,8 +10,8 @@ use Rattle.std.proofs.lemmas.Option.{slice_get_read}
 use Rattle.config_value.specs.Value.{is_true_at, links_at_instance}
 use Rattle.answer_check.specs.InstanceSets.{is_member}
 use Rattle.answer_check.proofs.Counted.{all_next, any_next}
-use Rattle.answer_check.proofs.EvaluationLaws.{value_at-form, evaluable}
-use Rattle.answer_check.proofs.TruthLaws.{none_more, but_not, but_not_not, if_then, bounded-within, linked-bounded, all-linked, any-linked}
+use Rattle.answer_check.proofs.EvaluationLaws.{value_at_form, evaluable}
+use Rattle.answer_check.proofs.TruthLaws.{none_more, but_not, but_not_not, if_then, bounded_within, linked_bounded, all_linked, any_linked}
 use Rattle.answer_check.proofs.truths.+truths.Goals as goal
 
 -- ---- what has bounds can be evaluated
@@ -94,7 +94,7 @@ true_among-true_among-found-requires t c = (
     c.requires.valid,
     (
       c.requires.shaped,
-      linked-bounded c.args.problem.now c.args.c.now c.in-All.p c.args.among c.linked_from-linked.result c.linked_from-linked.ensures c.get-in-All.result.now (λ i here.
+      linked_bounded c.args.problem.now c.args.c.now c.in-All.p c.args.among c.linked_from-linked.result c.linked_from-linked.ensures c.get-in-All.result.now (λ i here.
           let can = evaluable c.args.problem.now c.args.c.now c.requires.valid.declared c.requires.shaped i c.args.e.now (c.requires.bounded i here) in
           search (rules, the_lemmas)),
     ),
@@ -108,7 +108,7 @@ true_among-true_among-requires-in-Any t c = (
     c.requires.valid,
     (
       c.requires.shaped,
-      linked-bounded c.args.problem.now c.args.c.now c.in-Any.p c.args.among c.linked_from-linked-in-Any.result c.linked_from-linked-in-Any.ensures c.get-in-Any.result.now (λ i here.
+      linked_bounded c.args.problem.now c.args.c.now c.in-Any.p c.args.among c.linked_from-linked-in-Any.result c.linked_from-linked-in-Any.ensures c.get-in-Any.result.now (λ i here.
           let can = evaluable c.args.problem.now c.args.c.now c.requires.valid.declared c.requires.shaped i c.args.e.now (c.requires.bounded i here) in
           search (rules, the_lemmas)),
     ),
@@ -116,10 +116,10 @@ true_among-true_among-requires-in-Any t c = (
 )
 
 pub true_among-linking_only-requires-clause-within : goal.true_among-linking_only-requires-clause-within
-true_among-linking_only-requires-clause-within t c = bounded-within c.args.problem.now c.args.c.now c.args.among c.args.e.now c.requires.bounded
+true_among-linking_only-requires-clause-within t c = bounded_within c.args.problem.now c.args.c.now c.args.among c.args.e.now c.requires.bounded
 
 pub true_among-linking_only-requires-in-Any-clause-within : goal.true_among-linking_only-requires-in-Any-clause-within
-true_among-linking_only-requires-in-Any-clause-within t c = bounded-within c.args.problem.now c.args.c.now c.args.among c.args.e.now c.requires.bounded
+true_among-linking_only-requires-in-Any-clause-within t c = bounded_within c.args.problem.now c.args.c.now c.args.among c.args.e.now c.requires.bounded
 
 pub all_among-true_among-left-requires : goal.all_among-true_among-left-requires
 all_among-true_among-left-requires t c =
@@ -176,35 +176,35 @@ none_among-loop-e-preserved t c = λ i.
 -- ---- where it is true
 
 pub true_among-returns-in-And : goal.true_among-returns-in-And
-true_among-returns-in-And t c = λ i. rw (value_at-form c.args.problem.now c.args.c.now i c.args.e.now) (search (rules, the_lemmas))
+true_among-returns-in-And t c = λ i. rw (value_at_form c.args.problem.now c.args.c.now i c.args.e.now) (search (rules, the_lemmas))
 
 pub true_among-returns-in-Or : goal.true_among-returns-in-Or
 true_among-returns-in-Or t c = λ i.
     let twice = but_not_not (is_member c.args.among i) (list_any (is_true_at c.args.problem.now c.args.c.now i) c.as_slice-in-Or.result.now) in
-    rw (value_at-form c.args.problem.now c.args.c.now i c.args.e.now) (search (rules, the_lemmas))
+    rw (value_at_form c.args.problem.now c.args.c.now i c.args.e.now) (search (rules, the_lemmas))
 
 pub true_among-returns-in-Not : goal.true_among-returns-in-Not
 true_among-returns-in-Not t c = λ i.
     let once = but_not (is_member c.args.among i) (is_true_at c.args.problem.now c.args.c.now i c.get.result.now) in
-    rw (value_at-form c.args.problem.now c.args.c.now i c.args.e.now) (search (rules, the_lemmas))
+    rw (value_at_form c.args.problem.now c.args.c.now i c.args.e.now) (search (rules, the_lemmas))
 
 pub true_among-returns-in-If : goal.true_among-returns-in-If
 true_among-returns-in-If t c = λ i.
     let both = if_then (is_member c.args.among i) (is_true_at c.args.problem.now c.args.c.now i c.get-in-If.result.now) (is_true_at c.args.problem.now c.args.c.now i c.get-in-If-2.result.now) in
-    rw (value_at-form c.args.problem.now c.args.c.now i c.args.e.now) (search (rules, the_lemmas))
+    rw (value_at_form c.args.problem.now c.args.c.now i c.args.e.now) (search (rules, the_lemmas))
 
 pub true_among-returns-in-All : goal.true_among-returns-in-All
 true_among-returns-in-All t c = λ i.
-    let within = bounded-within c.args.problem.now c.args.c.now c.args.among c.args.e.now c.requires.bounded in
-    let all = all-linked c.args.problem.now c.args.c.now c.in-All.p c.args.among c.linked_from-linked.result c.linked_from-linked.ensures within c.get-in-All.result.now c.true_among-found.result c.true_among-found.ensures i in
-    rw (value_at-form c.args.problem.now c.args.c.now i c.args.e.now) (search (rules, the_lemmas))
+    let within = bounded_within c.args.problem.now c.args.c.now c.args.among c.args.e.now c.requires.bounded in
+    let all = all_linked c.args.problem.now c.args.c.now c.in-All.p c.args.among c.linked_from-linked.result c.linked_from-linked.ensures within c.get-in-All.result.now c.true_among-found.result c.true_among-found.ensures i in
+    rw (value_at_form c.args.problem.now c.args.c.now i c.args.e.now) (search (rules, the_lemmas))
 
 pub true_among-returns-in-Any : goal.true_among-returns-in-Any
 true_among-returns-in-Any t c = λ i.
-    let within = bounded-within c.args.problem.now c.args.c.now c.args.among c.args.e.now c.requires.bounded in
-    let any = any-linked c.args.problem.now c.args.c.now c.in-Any.p c.args.among c.linked_from-linked-in-Any.result c.linked_from-linked-in-Any.ensures within c.get-in-Any.result.now c.true_among-in-Any.result c.true_among-in-Any.ensures c.without-others.result c.without-others.ensures i in
+    let within = bounded_within c.args.problem.now c.args.c.now c.args.among c.args.e.now c.requires.bounded in
+    let any = any_linked c.args.problem.now c.args.c.now c.in-Any.p c.args.among c.linked_from-linked-in-Any.result c.linked_from-linked-in-Any.ensures within c.get-in-Any.result.now c.true_among-in-Any.result c.true_among-in-Any.ensures c.without-others.result c.without-others.ensures i in
     let twice = but_not_not (is_member c.args.among i) (list_any (λ j. is_true_at c.args.problem.now c.args.c.now j c.get-in-Any.result.now) (links_at_instance c.args.problem.now c.args.c.now c.in-Any.p i)) in
-    rw (value_at-form c.args.problem.now c.args.c.now i c.args.e.now) (search (rules, the_lemmas))
+    rw (value_at_form c.args.problem.now c.args.c.now i c.args.e.now) (search (rules, the_lemmas))
 
 pub true_among-returns-in_default : goal.true_among-returns-in_default
-true_among-returns-in_default t c = λ i. rw (value_at-form c.args.problem.now c.args.c.now i c.args.e.now) (search (rules, the_lemmas))
+true_among-returns-in_default t c = λ i. rw (value_at_form c.args.problem.now c.args.c.now i c.args.e.now) (search (rules, the_lemmas))

@@ -5,7 +5,7 @@ use Rattle.std.proofs.lemmas.List.{take_all}
 use Rattle.std.proofs.lemmas.List.FromFn.{length-enumerate_from}
 use Rattle.canonical_form.specs.AnswerText.{instance_text, answer_text}
 use Rattle.canonical_form.proofs.SpelledInstances.{few_instances, written_at, numbered_at}
-use Rattle.canonical_form.proofs.Zipped.{flat_map-take_more}
+use Rattle.canonical_form.proofs.Zipped.{flat_map_take_more}
 use Rattle.canonical_form.proofs.answer_text.write_answer.Goals as goal
 
 pub overflow_cast-i-end : goal.overflow_cast-i-end
@@ -16,7 +16,7 @@ put_instance-requires c = written_at c.args.problem.now c.args.c.now c.loop-i.i 
 
 pub loop-i-preserved : goal.loop-i-preserved
 loop-i-preserved c =
-    let more = flat_map-take_more (instance_text c.args.problem.now) (enumerate_from 0 c.args.c.now) c.loop-i.i (c.loop-i.i, c.get.result.now)
+    let more = flat_map_take_more (instance_text c.args.problem.now) (enumerate_from 0 c.args.c.now) c.loop-i.i (c.loop-i.i, c.get.result.now)
     (numbered_at c.args.c.now c.loop-i.i c.get.result.now c.get.ensures) in
     grind (arith, common_steps)
 

@@ -1,5 +1,5 @@
 use Rattle.std.proofs.Common.{arith, Some, None, sym, ◌∙◌}
-use Rattle.config_value.proofs.TurnSteps.{turn_after-port}
+use Rattle.config_value.proofs.TurnSteps.{turn_after_port}
 use Rattle.config_value.proofs.turn.after_ports.Goals as goal
 
 -- a link of this port is out of turn, and so of all of them
@@ -9,7 +9,7 @@ returns-in_err-turn c =
     let links = c.links-item in
     let after = rw c.as_slice.ensures at c.in_err-turn.ensures in
     c.from_residual.ensures
-    ∙ sym (turn_after-port _ _ c.args.from i c.args.ports.now links.result None (omega arith) links.is after)
+    ∙ sym (turn_after_port _ _ c.args.from i c.args.ports.now links.result None (omega arith) links.is after)
     ∙ c.loop-links.invariant
 
 -- the ports to come are one fewer
@@ -19,5 +19,5 @@ loop-links-preserved c =
     let links = c.links-item in
     let after = rw c.as_slice.ensures at c.in_ok-turn.ensures in
     let turn = Some c.in_ok-turn.turn in
-    sym (turn_after-port _ _ c.args.from i c.args.ports.now links.result turn (omega arith) links.is after)
+    sym (turn_after_port _ _ c.args.from i c.args.ports.now links.result turn (omega arith) links.is after)
     ∙ c.loop-links.invariant

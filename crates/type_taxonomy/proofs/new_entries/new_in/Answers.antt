@@ -1,7 +1,7 @@
 use Rattle.std.proofs.Common.{◌≡◌, ◌+◌, length, map, drop, arith, ap, ◌∙◌}
 use Rattle.type_taxonomy.specs.Entries.{named, is_new_among}
 use Rattle.type_taxonomy.proofs.AboveLaws.{new_told}
-use Rattle.type_taxonomy.proofs.Items.{length-push-le}
+use Rattle.type_taxonomy.proofs.Items.{length_push_le}
 use Rattle.type_taxonomy.proofs.NewEntries.{numbered_more, numbered_same}
 use Rattle.type_taxonomy.proofs.new_entries.new_in.Goals as goal
 use Rattle.type_taxonomy.proofs.new_entries.new_in.Goals.{then-is_free+in_ok-push, else-is_free}
@@ -19,7 +19,7 @@ loop-declared-preserved g c =
           let pushed = w.row-is ∙ w.in_ok-push.ensures.ok in
           record {
             of_type = so_far.of_type;
-            few = length-push-le _ _ _ _ so_far.few pushed;
+            few = length_push_le _ _ _ _ so_far.few pushed;
             row = numbered_more it.declared it.name_of c.args.first_id is_new c.declared-declared-items.result.now c.loop-declared.declared-index c.loop-declared.row c.if-is_free.row _
                 c.loop-declared-test.true c.declared-item.is (told ∙ w.if-is_free.true) (ap (λ k. c.args.first_id + k) w.len.ensures) so_far.row pushed;
           }

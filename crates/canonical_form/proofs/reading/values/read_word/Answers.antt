@@ -6,7 +6,7 @@ use Rattle.prod_model.specs.Names.{same_text}
 use Rattle.canonical_form.specs.Pieces.{word_piece}
 use Rattle.canonical_form.specs.AnswerParts.{behind_word}
 use Rattle.canonical_form.specs.Reading.{Takes}
-use Rattle.canonical_form.proofs.LookUps.{position-hit}
+use Rattle.canonical_form.proofs.LookUps.{position_hit}
 use Rattle.canonical_form.proofs.WordSteps.{no_word, found_word}
 use Rattle.canonical_form.proofs.reading.values.read_word.Goals as goal
 
@@ -18,7 +18,7 @@ pub returns-clause-found : goal.returns-clause-found
 returns-clause-found c =
     let k = c.in_ok-place.place in
     let at = sym c.place_of.ensures ∙ c.in_ok-place.was in
-    let hit = position-hit (λ w. same_text w c.split_token.result.0.now) c.args.words.now k at in
+    let hit = position_hit (λ w. same_text w c.split_token.result.0.now) c.args.words.now k at in
     let within = hit.within in
     let few = c.requires.few in
     let small : k < 2 ^ 63 = omega arith in

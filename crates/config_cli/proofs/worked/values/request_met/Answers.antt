@@ -2,7 +2,7 @@ use Rattle.std.proofs.Common.{sym, subst}
 use Rattle.std.specs.Prelude.{IsTrue}
 use Rattle.prod_model.specs.ExprBounds.{is_truth_at}
 use Rattle.prod_model.specs.Valid.{IsValidOrder}
-use Rattle.config_cli.proofs.Wishes.{one_wish-valid}
+use Rattle.config_cli.proofs.Wishes.{one_wish_valid}
 use Rattle.config_cli.proofs.worked.values.request_met.Goals as goal
 
 pub meets-requires-clause-order : goal.meets-requires-clause-order
@@ -10,4 +10,4 @@ meets-requires-clause-order c =
     let m = c.model-model.ensures.model in
     let truth = c.is_truth.ensures c.if-not-is_truth.false in
     subst (IsValidOrder c.args.problem.now) (sym c.in_ok-order.ensures)
-    (one_wish-valid c.args.problem.now c.args.e (subst (λ n. IsTrue (is_truth_at n n.root c.args.e)) m truth))
+    (one_wish_valid c.args.problem.now c.args.e (subst (λ n. IsTrue (is_truth_at n n.root c.args.e)) m truth))
