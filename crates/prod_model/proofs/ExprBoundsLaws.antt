@@ -6,7 +6,7 @@ use Rattle.std.specs.List.{fold}
 use Rattle.std.proofs.Common.{ap, ◌∙◌}
 use Rattle.std.proofs.lemmas.List.{length-map}
 use Rattle.std.proofs.lemmas.List.Folds.{fold-map}
-use Rattle.std.proofs.lemmas.Simd.{map_map}
+use Rattle.std.proofs.lemmas.Simd.{map-map}
 use Rattle.prod_model.specs.declared.model.Model.{Model}
 use Rattle.prod_model.specs.declared.expr_bounds.Bounds.{Bounds}
 use Rattle.prod_model.specs.declared.expr_bounds.Bounds.TheVariants.{Number as number, Truth as truth}
@@ -51,7 +51,7 @@ module _ (m : Model) (t : ℕ) where
 
   pub bounds_at_Add : (es : List Expr) → bounds_at m (roll-Expr (Add es)) t ≡ (if has_arguments es then sum_of_all (pos 0) (pos 0) (map (λ e. bounds_at m e t) es) else None)
   unfolding bounds_at
-  bounds_at_Add es = ap (λ (f : ℕ → Option Bounds). f t) (fold-roll-Expr (ℕ → Option Bounds) (layer_bounds m) (Add es)) ∙ simp (map_map, length-map)
+  bounds_at_Add es = ap (λ (f : ℕ → Option Bounds). f t) (fold-roll-Expr (ℕ → Option Bounds) (layer_bounds m) (Add es)) ∙ simp (map-map, length-map)
 
   pub bounds_at_Sub : (e f : Expr) → bounds_at m (roll-Expr (Sub e f)) t ≡ difference (bounds_at m e t) (bounds_at m f t)
   unfolding bounds_at
@@ -75,11 +75,11 @@ module _ (m : Model) (t : ℕ) where
 
   pub bounds_at_And : (es : List Expr) → bounds_at m (roll-Expr (And es)) t ≡ (if has_arguments es then truth_of (map (λ e. bounds_at m e t) es) else None)
   unfolding bounds_at
-  bounds_at_And es = ap (λ (f : ℕ → Option Bounds). f t) (fold-roll-Expr (ℕ → Option Bounds) (layer_bounds m) (And es)) ∙ simp (map_map, length-map)
+  bounds_at_And es = ap (λ (f : ℕ → Option Bounds). f t) (fold-roll-Expr (ℕ → Option Bounds) (layer_bounds m) (And es)) ∙ simp (map-map, length-map)
 
   pub bounds_at_Or : (es : List Expr) → bounds_at m (roll-Expr (Or es)) t ≡ (if has_arguments es then truth_of (map (λ e. bounds_at m e t) es) else None)
   unfolding bounds_at
-  bounds_at_Or es = ap (λ (f : ℕ → Option Bounds). f t) (fold-roll-Expr (ℕ → Option Bounds) (layer_bounds m) (Or es)) ∙ simp (map_map, length-map)
+  bounds_at_Or es = ap (λ (f : ℕ → Option Bounds). f t) (fold-roll-Expr (ℕ → Option Bounds) (layer_bounds m) (Or es)) ∙ simp (map-map, length-map)
 
   pub bounds_at_Not : (e : Expr) → bounds_at m (roll-Expr (Not e)) t ≡ truth_of (bounds_at m e t ∷ [])
   unfolding bounds_at
