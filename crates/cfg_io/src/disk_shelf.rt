@@ -55,7 +55,8 @@ impl<'a, R: Files> Shelf for DiskShelf<'a, R> {
 
     ghost faults = { λ counts name. count_of name counts };
 
-    /// `Failed` comes where the file can't be opened or a read of it fails. At most `limit + 1`
+    /// `Failed` comes where the file can't be opened or a read of it fails, and then alone a count
+    /// rises, that of the name. At most `limit + 1`
     /// bytes are taken, and `TooLong` comes once they are. `Memory` comes before the file is
     /// opened, or where its bytes find no room.
     fn read(&mut self, name: &str, limit: usize) -> Result<Vec<u8>, ReadError> {
@@ -71,6 +72,8 @@ fn count_if_failed(faults: &mut FaultCounts, name: &str, answer: &Result<Vec<u8>
     requires { is_kept name.now (counts_of faults.old) ≡ true }
     ensures failed { IsErrOf answer.now ReadError.Failed
         → counts_of faults.new ≡ with_fault name.now (counts_of faults.old) }
+    ensures uncounted { ¬ IsErrOf answer.now ReadError.Failed
+        → counts_of faults.new ≡ counts_of faults.old }
     ensures one { (counts_of faults.new ≡ counts_of faults.old)
         ⊎ (counts_of faults.new ≡ with_fault name.now (counts_of faults.old)) }
 {

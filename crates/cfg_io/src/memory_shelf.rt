@@ -111,6 +111,8 @@ impl Shelf for MemoryShelf {
         ensures too_long { IsErrOf result ReadError.TooLong → TellsMore (Some self.old.files) name.now limit }
         ensures failed { IsErrOf result ReadError.Failed
             → Rose (count_of name.now self.old.faults) (count_of name.now self.new.faults) }
+        ensures uncounted { ¬ IsErrOf result ReadError.Failed
+            → (n : List ℕ) → count_of n self.new.faults ≡ count_of n self.old.faults }
         ensures later { (n : List ℕ) → count_of n self.old.faults ≤ count_of n self.new.faults }
         ensures others { (n : List ℕ) → n ≢ name.now
             → count_of n self.new.faults ≡ count_of n self.old.faults }

@@ -81,6 +81,8 @@ impl Sink for MemorySink {
         ensures nothing { (e : _) → IsErrOf result (WriteError.Memory e)
             → Some self.new.written ≡ Some self.old.written }
         ensures failed { IsErrOf result WriteError.Failed → Rose self.old.faults self.new.faults }
+        ensures uncounted { ¬ IsErrOf result WriteError.Failed
+            → self.new.faults ≡ self.old.faults }
         ensures later { self.old.faults ≤ self.new.faults }
         ensures bounded { self.new.faults ≤ 2 ^ 64 - 1 }
 

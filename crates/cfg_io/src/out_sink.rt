@@ -52,6 +52,8 @@ impl<W: Write> Sink for OutSink<W> {
     fn write(&mut self, piece: &[u8]) -> Result<(), WriteError>
         // What each sink ensures.
         ensures failed { IsErrOf result WriteError.Failed → Rose self.old.faults self.new.faults }
+        ensures uncounted { ¬ IsErrOf result WriteError.Failed
+            → self.new.faults ≡ self.old.faults }
         ensures later { self.old.faults ≤ self.new.faults }
         ensures bounded { self.new.faults ≤ 2 ^ 64 - 1 }
 
@@ -60,7 +62,6 @@ impl<W: Write> Sink for OutSink<W> {
             (Appends (W.contents self.old.out) (W.contents self.new.out) piece.now) }
         ensures part { OnErr result
             (GetsFront (W.contents self.old.out) (W.contents self.new.out) piece.now) }
-        ensures uncounted { OnOk result (self.new.faults ≡ self.old.faults) }
         ensures counted { OnErr result (self.new.faults ≡ raised self.old.faults) }
         ensures no_memory { (e : _) → IsErrOf result (WriteError.Memory e) → ⊥ }
     {

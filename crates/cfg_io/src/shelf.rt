@@ -42,8 +42,8 @@ pub trait Shelf {
 
     /// Reads the file of that name, if it has at most `limit` bytes.
     ///
-    /// `Failed` comes only where the name's count of faults rose. `TooLong` comes where the file
-    /// has more than `limit` bytes. Where the shelf tells its files, a file that is there and no
+    /// `Failed` comes only where the name's count of faults rose, and no count rises with another
+    /// answer. `TooLong` comes where the file has more than `limit` bytes. Where the shelf tells its files, a file that is there and no
     /// longer than `limit` gives its bytes, unless the call fails or memory runs out.
     fn read(&mut self, name: &str, limit: usize) -> Result<Vec<u8>, ReadError>
         ensures same { files self.new ≡ files self.old }
@@ -56,6 +56,8 @@ pub trait Shelf {
             → Rose (faults self.old name.now) (faults self.new name.now) }
 
         // The counts of faults.
+        ensures uncounted { ¬ IsErrOf result ReadError.Failed
+            → (n : List ℕ) → faults self.new n ≡ faults self.old n }
         ensures later { (n : List ℕ) → faults self.old n ≤ faults self.new n }
         ensures others { (n : List ℕ) → n ≢ name.now → faults self.new n ≡ faults self.old n }
         ensures bounded { (n : List ℕ) → faults self.new n ≤ 2 ^ 64 - 1 };

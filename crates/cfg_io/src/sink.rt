@@ -39,7 +39,8 @@ pub trait Sink {
     /// Writes the whole piece.
     ///
     /// `Failed` comes only where the count of faults rose, after a part of the piece, from its
-    /// front on, was written. `Memory` comes before anything was written.
+    /// front on, was written. `Memory` comes before anything was written. The count rises with no
+    /// answer but `Failed`.
     fn write(&mut self, piece: &[u8]) -> Result<(), WriteError>
         // What is written.
         ensures whole { OnOk result (TellsWhole (written self.old) piece.now (written self.new)) }
@@ -51,6 +52,8 @@ pub trait Sink {
         // The count of faults.
         ensures failed { IsErrOf result WriteError.Failed
             → Rose (faults self.old) (faults self.new) }
+        ensures uncounted { ¬ IsErrOf result WriteError.Failed
+            → faults self.new ≡ faults self.old }
         ensures later { faults self.old ≤ faults self.new }
         ensures bounded { faults self.new ≤ 2 ^ 64 - 1 };
 }

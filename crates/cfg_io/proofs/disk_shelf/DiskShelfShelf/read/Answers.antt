@@ -1,7 +1,7 @@
 use Rattle.std.proofs.Common.{◌≡◌, ◌∙◌, ap}
 use Rattle.cfg_io.specs.Counts.{AreBounded, with_fault, with_room}
 use Rattle.cfg_io.specs.FaultCounts.{counts_of}
-use Rattle.cfg_io.proofs.CountLaws.{kept_fits, kept_in_room, fault_in_room, one_fault, Settles, settled}
+use Rattle.cfg_io.proofs.CountLaws.{kept_fits, kept_in_room, count_in_room, fault_in_room, one_fault, Settles, settled}
 use Rattle.cfg_io.proofs.disk_shelf.DiskShelfShelf.read.Given as given
 use Rattle.cfg_io.proofs.disk_shelf.DiskShelfShelf.read.Goals as goal
 
@@ -30,6 +30,11 @@ returns-clause-failed g c = λ e.
     let raises = c.count_if_failed.ensures.failed e
     ∙ ap (with_fault c.args.name.now) (room g c) ∙ fault_in_room c.args.name.now c.args.self.now in
     (one_fault _ _ _ (fits g c) raises).rose
+
+-- with another answer there is at most room for one more count, which is 0
+pub returns-clause-uncounted : goal.returns-clause-uncounted
+returns-clause-uncounted g c = λ other n.
+    rw (c.count_if_failed.ensures.uncounted other, room g c) (count_in_room n c.args.name.now c.args.self.now)
 
 pub returns-clause-later : goal.returns-clause-later
 returns-clause-later g c = (settles g c).later
