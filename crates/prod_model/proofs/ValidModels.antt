@@ -8,7 +8,7 @@ use Rattle.std.proofs.lemmas.Bool.Decides.{nat_tests}
 use Rattle.prod_model.specs.declared.model.Model.{Model}
 use Rattle.prod_model.specs.declared.model.TypeDecl.{TypeDecl}
 use Rattle.prod_model.specs.Forest.{line}
-use Rattle.prod_model.specs.TypeMasks.{has_small_parents}
+use Rattle.prod_model.specs.steps.TypeMasks.{has_small_parents}
 use Rattle.prod_model.specs.Valid.{IsValid, has_short_lists, has_known_parents}
 
 -- a valid model has at most 128 types

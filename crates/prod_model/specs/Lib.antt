@@ -8,3 +8,4 @@ pub mod ExprBounds
 pub mod Valid
 pub mod TypeMasks
 pub mod Problem
+pub mod steps

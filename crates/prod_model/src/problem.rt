@@ -4,6 +4,7 @@ ghost use Rattle.std.specs.Int.{bit_at};
 ghost use Rattle.prod_model.specs.Forest.{is_a, is_leaf};
 ghost use Rattle.prod_model.specs.Valid.{IsValid};
 ghost use Rattle.prod_model.specs.Taxonomy.{tables_of, attributes_at, ports_at};
+ghost use Rattle.prod_model.specs.TypeMasks.{IsMask};
 
 use crate::copies::Copies;
 use crate::model::{self, AttrAt, PortAt, Tables};
@@ -84,7 +85,7 @@ impl Problem {
     #[tactic(auto, using(crate::proofs::ValidModels::few_types, std::proofs::lemmas::Nat::Bits::bit_at_and))]
     pub fn leaves_under(&self, t: u32) -> u128
         requires { t < length self.now.types }
-        ensures { (k : ℕ) → bit_at result k ≡ (if is_leaf self.now k && is_a self.now k t then 1 else 0) }
+        ensures { IsMask result (λ k. is_leaf self.now k && is_a self.now k t) }
     {
         self.masks.leaves_under(t)
     }

@@ -2,7 +2,8 @@
 ghost use Rattle.std.specs.Prelude.{◌≡◌, ℕ, ◌<◌, ◌≤◌, ◌↔◌, bit_and, nat_lt, length, slice_index, IsTrue, if◌then◌else◌, ◌==◌, ◌&&◌};
 ghost use Rattle.std.specs.Int.{bit_at};
 ghost use Rattle.prod_model.specs.Forest.{line_within, line};
-ghost use Rattle.prod_model.specs.TypeMasks.{AreMasks, IsMask, SetsBit, is_on, has_no_child, has_small_parents};
+ghost use Rattle.prod_model.specs.TypeMasks.{AreMasks, IsMask};
+ghost use Rattle.prod_model.specs.steps.TypeMasks.{SetsBit, is_on, has_no_child, has_small_parents};
 ghost use Rattle.prod_model.specs.Valid.{IsValid};
 
 use crate::model::{Model, TypeDecl};

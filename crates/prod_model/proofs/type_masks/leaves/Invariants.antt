@@ -1,5 +1,6 @@
 use Rattle.std.proofs.Common.{take, length, nat_lt, ◌&&◌}
-use Rattle.prod_model.specs.TypeMasks.{IsMask, has_no_child}
+use Rattle.prod_model.specs.TypeMasks.{IsMask}
+use Rattle.prod_model.specs.steps.TypeMasks.{has_no_child}
 use Rattle.prod_model.proofs.type_masks.leaves.Given as goal
 
 abbrev pub invariant-loop-decl : goal.invariant-loop-decl
