@@ -6,7 +6,6 @@ use Rattle.std.proofs.lemmas.Bool.{false≢true}
 use Rattle.std.proofs.lemmas.List.Elements.{Contains-append_cases}
 use Rattle.prod_model.specs.declared.model.Model.{Model}
 use Rattle.prod_model.specs.declared.expr_bounds.Bounds.{Bounds}
-use Rattle.prod_model.specs.declared.expr_bounds.Bounds.TheVariants.{Number as number, Truth as truth}
 use Rattle.prod_model.specs.declared.expr.Expr.{Expr}
 use Rattle.prod_model.specs.declared.expr.Expr.TheViews.{out-Expr}
 use Rattle.prod_model.specs.Limits.{most_nesting}
@@ -15,7 +14,7 @@ use Rattle.prod_model.specs.ExprBounds.{bounds_at}
 use Rattle.expr_bounds.specs.Parts.{type_of_arguments}
 use Rattle.expr_bounds.specs.Faults.{unknown_names, wrong_attributes, is_truth_form, needs_truths, same_truth}
 use Rattle.expr_bounds.specs.Laws.{BoundedHasNoFault}
-use Rattle.expr_bounds.specs.Search.{levels_below, whole_at, standing_below, whole_if, places, is_too_deep, is_wrong_kind, is_wide, has_bounded_arguments, own_faults, HasFaultAt, own, inner}
+use Rattle.expr_bounds.specs.Search.{levels_below, whole_at, standing_below, whole_if, places, is_too_deep, is_wrong_kind, is_innermost_unbounded, has_bounded_arguments, own_faults, HasFaultAt, own, inner}
 use Rattle.expr_bounds.specs.declared.kind.Kind as kind
 use Rattle.expr_bounds.specs.declared.kind.Kind.TheVariants.{Deep, UnknownName, WrongKind, Wide}
 use Rattle.expr_bounds.specs.declared.standing.Standing.{Standing}
@@ -23,7 +22,7 @@ use Rattle.expr_bounds.proofs.ArgumentLaws.{nesting_argument, nesting_some}
 use Rattle.expr_bounds.proofs.BoundsLaws.{bounds_at_form}
 use Rattle.expr_bounds.proofs.Elements.{none_contained, whole_contained}
 use Rattle.expr_bounds.proofs.FaultsFound.{too_deep, found}
-use Rattle.expr_bounds.proofs.FormSound.{kind_of, IsSound, sound}
+use Rattle.expr_bounds.proofs.FormSound.{kind_of, some_kind, sound_at}
 
 -- ---- depth
 
@@ -40,14 +39,6 @@ nests_deep m (suc n) e s path levels (inner i arg at {path = rest} has) =
     omega (arith, nesting_argument e i arg at, nests_deep m n arg (standing_below m e s) rest (ap (option_and_then levels_below) levels) has)
 
 -- ---- names, kinds and width
-
-sound_at : (m : Model) (e : Expr) (t : ℕ) → is_some (bounds_at m e t) ≡ true → IsSound m (out-Expr e) t
-sound_at m e t is = sound m (out-Expr e) t (ap is_some (sym (bounds_at_form m e t)) ∙ is)
-
-some_kind : (o : Option Bounds) (b : Bool) → kind_of o ≡ Some b → is_some o ≡ true
-some_kind None b is = cc
-some_kind (Some truth) b is = refl
-some_kind (Some (number low high)) b is = refl
 
 self_kind : (b c : Bool) → b ≡ c → not (same_truth b c) ≡ false
 self_kind true c same = ap not (sym same)
@@ -77,7 +68,7 @@ no_own m WrongKind shallow e t s at is right path among =
           none_contained path (subst Among (ap (λ o. option_map_or (wrong_attributes m (out-Expr e)) o []) at ∙ (sound_at m e t is).attributes) name))
     ]
 no_own m Wide shallow e t s at is right path among =
-    let wide : is_wide m e t ≡ true = ap (λ o. option_map_or (is_wide m e) o false) (sym at) ∙ (whole_contained (option_map_or (is_wide m e) s.at false) path among).0 in
+    let wide : is_innermost_unbounded m e t ≡ true = ap (λ o. option_map_or (is_innermost_unbounded m e) o false) (sym at) ∙ (whole_contained (option_map_or (is_innermost_unbounded m e) s.at false) path among).0 in
     not_wide (bounds_at m e t) (has_bounded_arguments m e t) is wide
 
 no_fault : (m : Model) (k : kind.Kind) → ¬ (k ≡ Deep) → (e : Expr) (t : ℕ) (s : Standing) → s.at ≡ Some t → is_some (bounds_at m e t) ≡ true → is_wrong_kind s.needs_truth (out-Expr e) ≡ false

@@ -14,7 +14,7 @@ use Rattle.prod_model.specs.ExprBounds.{bounds_at}
 use Rattle.expr_bounds.specs.Arguments.{argument_list}
 use Rattle.expr_bounds.specs.Parts.{type_of_arguments}
 use Rattle.expr_bounds.specs.Faults.{place_unless, unknown_names}
-use Rattle.expr_bounds.specs.Search.{levels_below, whole_at, standing_below, is_too_deep, is_wide, has_bounded_arguments, places, HasFaultAt, own, inner}
+use Rattle.expr_bounds.specs.Search.{levels_below, whole_at, standing_below, is_too_deep, is_innermost_unbounded, has_bounded_arguments, places, HasFaultAt, own, inner}
 use Rattle.expr_bounds.specs.declared.kind.Kind.TheVariants.{Deep, UnknownName, Wide}
 use Rattle.expr_bounds.specs.declared.standing.Standing.{Standing}
 use Rattle.expr_bounds.proofs.ArgumentLaws.{nesting_argument, nesting_within, nesting_some}
@@ -63,8 +63,8 @@ bounded_within m (suc n) e t s within at known narrow =
     ∙ bounded_within m n arg type.0 (standing_below m e s) (omega (arith, nesting_argument e i arg found)) (ap (type_of_arguments m (out-Expr e)) at ∙ type.1)
     (λ path has. known _ (inner i arg found has)) (λ path has. narrow _ (inner i arg found has))) in
     some_unless_none (bounds_at m e t) (λ unbounded.
-    let wide : is_wide m e t ≡ true = grind (arith) in
-    narrow [] (own (contains_whole (option_map_or (is_wide m e) s.at false) (ap (λ o. option_map_or (is_wide m e) o false) at ∙ wide))))
+    let wide : is_innermost_unbounded m e t ≡ true = grind (arith) in
+    narrow [] (own (contains_whole (option_map_or (is_innermost_unbounded m e) s.at false) (ap (λ o. option_map_or (is_innermost_unbounded m e) o false) at ∙ wide))))
 
 -- an expression without unknown names and wide parts has bounds
 pub bounded_faultless : (m : Model) (e : Expr) (t : ℕ) → ((path : List ℕ) → ¬ HasFaultAt m UnknownName e (whole_at t) path)

@@ -1,15 +1,17 @@
 -- The first fault of the first kind that an expression has is its first fault.
-use Rattle.std.proofs.Common.{◌≡◌, ℕ, ◌<◌, ◌∙◌, sym, ap, subst, refl, List, ◌∷◌, ◌⊎◌, inl, inr, arith}
+use Rattle.std.proofs.Common.{◌≡◌, ℕ, ◌<◌, ◌∙◌, sym, ap, subst, refl, List, ◌∷◌, ◌⊎◌, IsTrue, inl, inr, arith}
 use Rattle.prod_model.specs.declared.model.Model.{Model}
 use Rattle.prod_model.specs.declared.expr.Expr.{Expr}
 use Rattle.prod_model.specs.First.{IsFirst}
+use Rattle.expr_bounds.specs.Forms.{is_form}
 use Rattle.expr_bounds.specs.Faults.{rank_of, IsFirstExprFault, Faults}
 use Rattle.expr_bounds.specs.Search.{whole_at, HasFaultAt, IsPathBefore, fault_of, HasNone, IsFirstOfKind, first, memory}
 use Rattle.expr_bounds.specs.declared.fault.ExprFault.{ExprFault}
 use Rattle.expr_bounds.specs.declared.kind.Kind.{Kind}
 use Rattle.expr_bounds.specs.declared.kind.Kind.TheVariants.{Deep, UnknownName, WrongKind, Wide}
 use Rattle.expr_bounds.proofs.PathOrder.{not_before_same, not_before_greater}
-use Rattle.expr_bounds.proofs.FaultsFound.{found, fault_of_whole}
+use Rattle.expr_bounds.proofs.FaultsFound.{OnlyWideUnbounded, found, fault_of_whole}
+use Rattle.expr_bounds.proofs.WideParts.{only_wide_unbounded}
 
 abbrev pub rank : Kind → ℕ
 rank Deep = 0
@@ -57,9 +59,16 @@ module _ (m : Model) (e : Expr) (t : ℕ) where
     | inr (inr before) ↦ absurd (none j before other has)
   ]
 
-  pub first_fault : (k : Kind) (path : List ℕ) → NoneOfKindsBefore (rank k) → IsFirst (HasFaultAt m k e (whole_at t)) IsPathBefore path → IsFirstExprFault m e t (fault_of k path)
-  first_fault k path none least = record {
-    is = fault_of_whole m e t k path least.is;
+  -- where the search for wide parts comes to, no name is unknown and no kind is wrong
+  only_wide : IsTrue (is_form e) → (k : Kind) → NoneOfKindsBefore (rank k) → OnlyWideUnbounded m e t k
+  only_wide formed k none wide =
+      let third : rank k ≡ 3 = ap rank wide in
+      only_wide_unbounded m e t formed (none UnknownName (omega (arith, third))) (none WrongKind (omega (arith, third)))
+
+  pub first_fault : IsTrue (is_form e) → (k : Kind) (path : List ℕ) → NoneOfKindsBefore (rank k) → IsFirst (HasFaultAt m k e (whole_at t)) IsPathBefore path
+      → IsFirstExprFault m e t (fault_of k path)
+  first_fault formed k path none least = record {
+    is = fault_of_whole m e t k (only_wide formed k none) path least.is;
     none_before = λ other has before.
         let f = found m e t other has in
         let Before : List ℕ → Type 0 = λ r. IsPathBefore r (rank_of (fault_of k path)) in
@@ -68,16 +77,16 @@ module _ (m : Model) (e : Expr) (t : ℕ) where
         (subst Before' (rank_fault k path) (subst Before (ap rank_of f.is ∙ rank_fault f.kind f.path) before));
   }
 
-  pub first_faults : (k : Kind) (path : List ℕ) → NoneOfKindsBefore (rank k) → IsFirst (HasFaultAt m k e (whole_at t)) IsPathBefore path → Faults m e t (fault_of k path)
-  first_faults Deep path none least = first_fault Deep path none least
-  first_faults UnknownName path none least = first_fault UnknownName path none least
-  first_faults WrongKind path none least = first_fault WrongKind path none least
-  first_faults Wide path none least = first_fault Wide path none least
+  pub first_faults : IsTrue (is_form e) → (k : Kind) (path : List ℕ) → NoneOfKindsBefore (rank k) → IsFirst (HasFaultAt m k e (whole_at t)) IsPathBefore path → Faults m e t (fault_of k path)
+  first_faults formed Deep path none least = first_fault formed Deep path none least
+  first_faults formed UnknownName path none least = first_fault formed UnknownName path none least
+  first_faults formed WrongKind path none least = first_fault formed WrongKind path none least
+  first_faults formed Wide path none least = first_fault formed Wide path none least
 
   -- the first fault of a kind is the first fault, if there is none of a kind before
-  pub faults_of_kind : (k : Kind) → NoneOfKindsBefore (rank k) → (f : ExprFault) → IsFirstOfKind m k e t f → Faults m e t f
-  faults_of_kind k none f (first path is same) = let Says : ExprFault → Type 0 = λ x. Faults m e t x in subst Says (sym same) (first_faults k path none is)
-  faults_of_kind k none f (memory same) = let Says : ExprFault → Type 0 = λ x. Faults m e t x in subst Says (sym same) tt
+  pub faults_of_kind : IsTrue (is_form e) → (k : Kind) → NoneOfKindsBefore (rank k) → (f : ExprFault) → IsFirstOfKind m k e t f → Faults m e t f
+  faults_of_kind formed k none f (first path is same) = let Says : ExprFault → Type 0 = λ x. Faults m e t x in subst Says (sym same) (first_faults formed k path none is)
+  faults_of_kind formed k none f (memory same) = let Says : ExprFault → Type 0 = λ x. Faults m e t x in subst Says (sym same) tt
 
   pub none_before_deep : NoneOfKindsBefore 0
   none_before_deep j before path has = omega arith

@@ -15,6 +15,7 @@ use Rattle.prod_model.specs.declared.expr_bounds.Bounds.{Bounds}
 use Rattle.prod_model.specs.declared.expr_bounds.Bounds.TheVariants.{Number as number, Truth as truth}
 use Rattle.prod_model.specs.declared.expr.Expr.{Expr}
 use Rattle.prod_model.specs.declared.expr.Expr.TheOpen.{Expr-F, Num, Attr, Count, CountOf, Sum, Total, Number, Add, Sub, Times, Cmp, Is, Kind, And, Or, Not, If, All, Any}
+use Rattle.prod_model.specs.declared.expr.Expr.TheViews.{out-Expr}
 use Rattle.prod_model.specs.Forest.{is_type}
 use Rattle.prod_model.specs.Taxonomy.{attribute_of, port_of, first_words}
 use Rattle.prod_model.specs.ExprBounds.{bounds_at, bounded, sum_of_some, sum_of_all, difference, multiple, comparison, truth_of, of_range, is_word_of, has_arguments}
@@ -23,6 +24,7 @@ use Rattle.expr_bounds.specs.Parts.{type_of_arguments}
 use Rattle.expr_bounds.specs.FormBounds.{form_bounds}
 use Rattle.expr_bounds.specs.Faults.{place_unless, has_range, has_words, is_known_word, unknown_names, wrong_attributes, is_truth_form, needs_truths}
 use Rattle.prod_model.proofs.TaxonomyLaws.{no_attributes}
+use Rattle.expr_bounds.proofs.BoundsLaws.{bounds_at_form}
 
 -- whether it is a truth
 abbrev pub kind_of : Option Bounds → Option Bool
@@ -30,11 +32,16 @@ kind_of None = None
 kind_of (Some truth) = Some true
 kind_of (Some (number low high)) = Some false
 
+pub some_kind : (o : Option Bounds) (b : Bool) → kind_of o ≡ Some b → is_some o ≡ true
+some_kind None b is = cc
+some_kind (Some truth) b is = refl
+some_kind (Some (number low high)) b is = refl
+
 abbrev IsBounded : Option Bounds → Type 0
 IsBounded o = is_some o ≡ true
 
 -- an argument has bounds where it stands, and is of the kind that the form needs
-abbrev HasKind : Model → Expr → Option ℕ → Bool → Type 0
+abbrev pub HasKind : Model → Expr → Option ℕ → Bool → Type 0
 HasKind m arg at needed = (u : ℕ) × (at ≡ Some u) × (kind_of (bounds_at m arg u) ≡ Some needed)
 
 pub record IsSound (m : Model) (f : Expr-F Expr) (t : ℕ) : Type 0 where
@@ -135,17 +142,17 @@ count_kind (Some q) f each is = each q
 no_arguments : (m : Model) (at : Option ℕ) (needed : Bool) (i : ℕ) (arg : Expr) → slice_get [] i ≡ Some arg → HasKind m arg at needed
 no_arguments m at needed i arg found = cc
 
-one_argument : (m : Model) (e : Expr) (at : Option ℕ) (needed : Bool) → HasKind m e at needed
+pub one_argument : (m : Model) (e : Expr) (at : Option ℕ) (needed : Bool) → HasKind m e at needed
     → (i : ℕ) (arg : Expr) → slice_get (e ∷ []) i ≡ Some arg → HasKind m arg at needed
 one_argument m e at needed here zero arg found = let Has : Expr → Type 0 = λ x. HasKind m x at needed in let same : e ≡ arg = cc in subst Has same here
 one_argument m e at needed here (suc i) arg found = cc
 
-two_arguments : (m : Model) (e f : Expr) (at : Option ℕ) (needed : Bool) → HasKind m e at needed → HasKind m f at needed
+pub two_arguments : (m : Model) (e f : Expr) (at : Option ℕ) (needed : Bool) → HasKind m e at needed → HasKind m f at needed
     → (i : ℕ) (arg : Expr) → slice_get (e ∷ f ∷ []) i ≡ Some arg → HasKind m arg at needed
 two_arguments m e f at needed here there zero arg found = let Has : Expr → Type 0 = λ x. HasKind m x at needed in let same : e ≡ arg = cc in subst Has same here
 two_arguments m e f at needed here there (suc i) arg found = one_argument m f at needed there i arg found
 
-list_arguments : (m : Model) (t : ℕ) (es : List Expr) (needed : Bool) → ((i : ℕ) (x : Option Bounds) → slice_get (map (λ e. bounds_at m e t) es) i ≡ Some x → kind_of x ≡ Some needed)
+pub list_arguments : (m : Model) (t : ℕ) (es : List Expr) (needed : Bool) → ((i : ℕ) (x : Option Bounds) → slice_get (map (λ e. bounds_at m e t) es) i ≡ Some x → kind_of x ≡ Some needed)
     → (i : ℕ) (arg : Expr) → slice_get es i ≡ Some arg → HasKind m arg (Some t) needed
 list_arguments m t es needed each i arg found =
     (t, refl, each i (bounds_at m arg t) (slice_get-map (λ e. bounds_at m e t) es i ∙ ap (option_map (λ e. bounds_at m e t)) found))
@@ -234,3 +241,7 @@ sound m (All p e) t is =
 sound m (Any p e) t is =
     let kinds = linked_kinds m e (port_of m t p) is in
     record { names = no_place _ 1 kinds.0; attributes = refl; arguments = one_argument m e _ true kinds.1; kind = kinds.2 }
+
+-- the same of an expression
+pub sound_at : (m : Model) (e : Expr) (t : ℕ) → is_some (bounds_at m e t) ≡ true → IsSound m (out-Expr e) t
+sound_at m e t is = sound m (out-Expr e) t (ap is_some (sym (bounds_at_form m e t)) ∙ is)

@@ -2,6 +2,7 @@ pub mod ArgumentLaws
 pub mod Bounded
 pub mod BoundsLaws
 pub mod Elements
+pub mod EndsLaws
 pub mod Faultless
 pub mod FaultsFound
 pub mod FirstFault
@@ -15,4 +16,5 @@ pub mod PathOrder
 pub mod Rows
 pub mod SampleLaws
 pub mod Turns
+pub mod WideParts
 pub mod FirstWords

@@ -15,7 +15,7 @@ use Rattle.prod_model.specs.Forest.{is_type}
 use Rattle.prod_model.specs.Taxonomy.{attribute_of, port_of}
 use Rattle.expr_bounds.specs.Arguments.{argument_list, first_place}
 use Rattle.expr_bounds.specs.Faults.{place_unless, has_range, has_words, attribute_of_target, is_known_word, unknown_names, wrong_attributes}
-use Rattle.expr_bounds.specs.Search.{own_faults, whole_if, places, is_too_deep, is_wrong_kind, is_wide, IsPathBefore}
+use Rattle.expr_bounds.specs.Search.{own_faults, whole_if, places, is_too_deep, is_wrong_kind, is_innermost_unbounded, IsPathBefore}
 use Rattle.expr_bounds.specs.declared.kind.Kind as kind
 use Rattle.expr_bounds.specs.declared.kind.Kind.TheVariants.{Deep, UnknownName, WrongKind, Wide}
 use Rattle.expr_bounds.specs.declared.standing.Standing.{Standing}
@@ -122,7 +122,7 @@ least_own_at m UnknownName e s None is = rw is refl
 least_own_at m UnknownName e s (Some t) is = rw is (least_names m (out-Expr e) t)
 least_own_at m WrongKind e s None is = rw is (least_wrong_none (is_wrong_kind s.needs_truth (out-Expr e)))
 least_own_at m WrongKind e s (Some t) is = rw is (least_wrong m (out-Expr e) t (is_wrong_kind s.needs_truth (out-Expr e)))
-least_own_at m Wide e s at is = least_whole (option_map_or (is_wide m e) s.at false)
+least_own_at m Wide e s at is = least_whole (option_map_or (is_innermost_unbounded m e) s.at false)
 
 -- none of the own faults is before the first of them
 pub own_ascend : (m : Model) (k : kind.Kind) (e : Expr) (s : Standing) (p q : List ℕ) → slice_get (own_faults m k e s) 0 ≡ Some p → Contains (own_faults m k e s) q → ¬ IsPathBefore q p
@@ -177,7 +177,7 @@ early_own m UnknownName e s None is i arg found = rw is refl
 early_own m UnknownName e s (Some t) is i arg found = rw is (early_names m (out-Expr e) t i arg found)
 early_own m WrongKind e s None is i arg found = rw is (early_wrong_none (first_place (out-Expr e)) (is_wrong_kind s.needs_truth (out-Expr e)))
 early_own m WrongKind e s (Some t) is i arg found = rw is (early_wrong m (out-Expr e) t (is_wrong_kind s.needs_truth (out-Expr e)) i arg found)
-early_own m Wide e s at is i arg found = early_whole (first_place (out-Expr e)) (option_map_or (is_wide m e) s.at false)
+early_own m Wide e s at is i arg found = early_whole (first_place (out-Expr e)) (option_map_or (is_innermost_unbounded m e) s.at false)
 
 not_before_early : (place j : ℕ) (path q : List ℕ) → is_early place q ≡ true → place ≤ j → ¬ IsPathBefore (j ∷ path) q
 not_before_early place j path [] early beyond = not_before_whole (j ∷ path)

@@ -1,5 +1,5 @@
 -- The faults of an expression, and the first of them.
-use Rattle.std.specs.Prelude.{◌≡◌, ℕ, Bool, true, false, not, ◌||◌, nat_lt, IsTrue, List, [], ◌∷◌, ◌++◌, length, flat_map, if◌then◌else◌, is_some, Some, None, Contains}
+use Rattle.std.specs.Prelude.{◌≡◌, ℕ, Bool, true, false, not, ◌||◌, nat_lt, IsTrue, List, [], ◌∷◌, ◌++◌, length, flat_map, if◌then◌else◌, is_some, Some, Contains}
 use Rattle.std.specs.declared.option.Option.{Option}
 use Rattle.std.specs.Option.{option_map_or, option_and_then}
 use Rattle.std.specs.Ordering.{nat_cmp, is_lt}
@@ -14,8 +14,8 @@ use Rattle.prod_model.specs.First.{IsFirst}
 use Rattle.prod_model.specs.Limits.{most_nesting}
 use Rattle.prod_model.specs.Forest.{is_type}
 use Rattle.prod_model.specs.Taxonomy.{attribute_of, port_of, first_words}
-use Rattle.prod_model.specs.ExprBounds.{bounds_at}
-use Rattle.expr_bounds.specs.Parts.{IsPart, arguments, type_of_arguments}
+use Rattle.expr_bounds.specs.Parts.{IsPart, arguments}
+use Rattle.expr_bounds.specs.Ends.{is_wide}
 use Rattle.expr_bounds.specs.declared.fault.ExprFault.{ExprFault}
 use Rattle.expr_bounds.specs.declared.fault.ExprFault.TheVariants.{Deep, UnknownName, WrongKind, Wide, Memory}
 
@@ -103,11 +103,8 @@ pub data HasExprFault (m : Model) (e : Expr) (t : ℕ) (f : ExprFault) : Type 0 
       → (k : ℕ) → Contains (wrong_arguments (out-Expr part)) k → f ≡ WrongKind (path ++ k ∷ []) → HasExprFault m e t f
   wrong_attribute : (path : List ℕ) (part : Expr) (of : ℕ) → IsPart m e t path part (Some of)
       → (k : ℕ) → Contains (wrong_attributes m (out-Expr part) of) k → f ≡ WrongKind (path ++ k ∷ []) → HasExprFault m e t f
-  -- a part without bounds, whose arguments all have bounds
-  wide : (path : List ℕ) (part : Expr) (of : ℕ) → IsPart m e t path part (Some of) → bounds_at m part of ≡ None
-      → ((k : ℕ) (arg : Expr) → Contains (arguments (out-Expr part)) (k, arg)
-      → IsTrue (option_map_or (λ u. is_some (bounds_at m arg u)) (type_of_arguments m (out-Expr part) (Some of)) false))
-      → f ≡ Wide path → HasExprFault m e t f
+  wide : (path : List ℕ) (part : Expr) (of : ℕ) → IsPart m e t path part (Some of)
+      → IsTrue (is_wide m (out-Expr part) of) → f ≡ Wide path → HasExprFault m e t f
 
 -- By kind of fault, and then by path. A part comes before what is in it, and arguments ascend.
 abbrev pub rank_of : ExprFault → List ℕ

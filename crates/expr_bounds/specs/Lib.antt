@@ -1,5 +1,6 @@
 pub mod Forms
 pub mod Parts
+pub mod Ends
 pub mod Faults
 pub mod Arguments
 pub mod FormBounds

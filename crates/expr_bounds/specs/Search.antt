@@ -61,15 +61,15 @@ abbrev pub has_bounded_arguments : Model → Expr → ℕ → Bool
 has_bounded_arguments m e t =
     list_all (λ arg. option_map_or (λ u. is_some (bounds_at m arg u)) (type_of_arguments m (out-Expr e) (Some t)) false) (argument_list (out-Expr e))
 
--- the part has no bounds, and all its arguments have
-abbrev pub is_wide : Model → Expr → ℕ → Bool
-is_wide m e t = is_none (bounds_at m e t) && has_bounded_arguments m e t
+-- The part has no bounds, and all its arguments have. It is wide, if no name is unknown and no kind is wrong.
+abbrev pub is_innermost_unbounded : Model → Expr → ℕ → Bool
+is_innermost_unbounded m e t = is_none (bounds_at m e t) && has_bounded_arguments m e t
 
 abbrev pub own_faults : Model → Kind → Expr → Standing → List (List ℕ)
 own_faults m Deep e s = whole_if (is_too_deep s.levels)
 own_faults m UnknownName e s = places (option_map_or (unknown_names m (out-Expr e)) s.at [])
 own_faults m WrongKind e s = whole_if (is_wrong_kind s.needs_truth (out-Expr e)) ++ places (option_map_or (wrong_attributes m (out-Expr e)) s.at [])
-own_faults m Wide e s = whole_if (option_map_or (is_wide m e) s.at false)
+own_faults m Wide e s = whole_if (option_map_or (is_innermost_unbounded m e) s.at false)
 
 -- ---- the faults of an expression
 

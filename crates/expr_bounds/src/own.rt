@@ -5,7 +5,7 @@ ghost use Rattle.std.specs.Option.{option_map, option_map_or};
 ghost use Rattle.prod_model.specs.declared.expr.Expr.TheViews.{out-Expr};
 ghost use Rattle.prod_model.specs.Taxonomy.{tables_of};
 ghost use Rattle.prod_model.specs.Valid.{IsDeclared};
-ghost use Rattle.expr_bounds.specs.Search.{own_faults, whole_if, places, is_too_deep, is_wrong_kind as is_wrong_kind_of, is_wide as is_wide_at, has_bounded_arguments as has_bounded};
+ghost use Rattle.expr_bounds.specs.Search.{own_faults, whole_if, places, is_too_deep, is_wrong_kind as is_wrong_kind_of, is_innermost_unbounded, has_bounded_arguments as has_bounded};
 ghost use Rattle.expr_bounds.specs.Faults.{unknown_names, wrong_attributes};
 
 use crate::bounds::bounds;
@@ -93,11 +93,11 @@ fn is_wrong_kind(part: &Expr, needs_truth: Option<bool>) -> bool
     }
 }
 
-/// Whether the part has no bounds, and all its arguments have.
+/// Whether the part has no bounds, and all its arguments have. It is wide, if no name is unknown and no kind is wrong.
 fn is_wide(model: &Model, tables: &Tables, part: &Expr, at: Option<u32>) -> bool
     requires declared { IsDeclared model.now }
     requires tables { tables.now ≡ tables_of model.now }
-    ensures { result ≡ option_map_or (is_wide_at model.now part.now) at false }
+    ensures { result ≡ option_map_or (is_innermost_unbounded model.now part.now) at false }
 {
     let Some(at) = at else {
         return false;

@@ -12,26 +12,26 @@ pub returns-in-Some-clause-fault : goal.returns-in-Some-clause-fault
 returns-in-Some-clause-fault c =
     let m = c.args.model.now in
     let e = c.args.expr.now in
-    faults_of_kind m e c.args.at Deep (none_before_deep m e c.args.at) c.in-Some.fault c.in-Some.ensures.first
+    faults_of_kind m e c.args.at c.requires.form Deep (none_before_deep m e c.args.at) c.in-Some.fault c.in-Some.ensures.first
 
 pub returns-in-Some-first_of-clause-fault : goal.returns-in-Some-first_of-clause-fault
 returns-in-Some-first_of-clause-fault c =
     let m = c.args.model.now in
     let e = c.args.expr.now in
-    faults_of_kind m e c.args.at UnknownName (none_before_name m e c.args.at c.in_default.ensures.none) c.in-Some-first_of.fault c.in-Some-first_of.ensures.first
+    faults_of_kind m e c.args.at c.requires.form UnknownName (none_before_name m e c.args.at c.in_default.ensures.none) c.in-Some-first_of.fault c.in-Some-first_of.ensures.first
 
 pub returns-in-Some-first_of-2-clause-fault : goal.returns-in-Some-first_of-2-clause-fault
 returns-in-Some-first_of-2-clause-fault c =
     let m = c.args.model.now in
     let e = c.args.expr.now in
-    faults_of_kind m e c.args.at WrongKind (none_before_kind m e c.args.at c.in_default.ensures.none c.in_default-first_of.ensures.none) c.in-Some-first_of-2.fault
+    faults_of_kind m e c.args.at c.requires.form WrongKind (none_before_kind m e c.args.at c.in_default.ensures.none c.in_default-first_of.ensures.none) c.in-Some-first_of-2.fault
     c.in-Some-first_of-2.ensures.first
 
 pub returns-in-Some-first_of-3-clause-fault : goal.returns-in-Some-first_of-3-clause-fault
 returns-in-Some-first_of-3-clause-fault c =
     let m = c.args.model.now in
     let e = c.args.expr.now in
-    faults_of_kind m e c.args.at Wide (none_before_wide m e c.args.at c.in_default.ensures.none c.in_default-first_of.ensures.none c.in_default-first_of-2.ensures.none)
+    faults_of_kind m e c.args.at c.requires.form Wide (none_before_wide m e c.args.at c.in_default.ensures.none c.in_default-first_of.ensures.none c.in_default-first_of-2.ensures.none)
     c.in-Some-first_of-3.fault c.in-Some-first_of-3.ensures.first
 
 pub returns-in-Some-bounds-clause-nesting : goal.returns-in-Some-bounds-clause-nesting
