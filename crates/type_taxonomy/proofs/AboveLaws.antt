@@ -10,10 +10,10 @@ use Rattle.indexmap.specs.IndexMap.{IndexMap}
 use Rattle.prod_model.specs.declared.model.TypeDecl.{TypeDecl}
 use Rattle.prod_model.specs.Names.{same_text}
 use Rattle.prod_model.specs.Taxonomy.{declarations_of}
-use Rattle.type_taxonomy.specs.Above.{found_along, passes_nearest}
-use Rattle.type_taxonomy.specs.ByName.{found, found_at}
+use Rattle.type_taxonomy.specs.steps.Above.{found_along, passes_nearest}
+use Rattle.type_taxonomy.specs.steps.ByName.{found, found_at}
 use Rattle.type_taxonomy.specs.declared.by_name.Found.{Found}
-use Rattle.type_taxonomy.specs.Entries.{is_new_among}
+use Rattle.type_taxonomy.specs.steps.Entries.{is_new_among}
 use Rattle.type_taxonomy.specs.Nearest.{declares}
 use Rattle.type_taxonomy.proofs.ByNameLaws.{none_or, none_at}
 use Rattle.type_taxonomy.proofs.Sorts.{declares_by}

@@ -16,8 +16,8 @@ use Rattle.prod_model.specs.Taxonomy.{made_attribute, made_port, attributes_at, 
 use Rattle.type_taxonomy.specs.declared.entry.Entry.{Entry}
 use Rattle.prod_model.specs.Forest.{line, line_within, is_a, type_numbers}
 use Rattle.type_taxonomy.specs.declared.forest.Forest.{Forest}
-use Rattle.type_taxonomy.specs.Built.{IsBuilt}
-use Rattle.type_taxonomy.specs.Entries.{named, placed_of}
+use Rattle.type_taxonomy.specs.steps.Built.{IsBuilt}
+use Rattle.type_taxonomy.specs.steps.Entries.{named, placed_of}
 use Rattle.type_taxonomy.proofs.Items.{length_table, table_row, table_map_row}
 use Rattle.type_taxonomy.proofs.Finished.{under, attribute_at, port_at, attributes_finished, ports_finished}
 

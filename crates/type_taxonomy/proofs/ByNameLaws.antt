@@ -9,7 +9,7 @@ use Rattle.std.proofs.lemmas.Map.Text.{hash_map_updates_str}
 use Rattle.indexmap.specs.IndexMap.{IndexMap, get_by}
 use Rattle.prod_model.specs.Names.{same_text}
 use Rattle.type_taxonomy.specs.declared.by_name.Found.{Found}
-use Rattle.type_taxonomy.specs.ByName.{found, found_at}
+use Rattle.type_taxonomy.specs.steps.ByName.{found, found_at}
 use Rattle.type_taxonomy.proofs.Inherited.{is_none_map}
 use Rattle.prod_model.proofs.NameLaws.{same_text_symm}
 

@@ -9,8 +9,8 @@ use Rattle.std.proofs.Math.ListN.{length-set}
 use Rattle.prod_model.specs.declared.model.TypeDecl.{TypeDecl}
 use Rattle.prod_model.specs.Forest.{line, type_numbers}
 use Rattle.type_taxonomy.specs.declared.entry.Entry.{Entry}
-use Rattle.type_taxonomy.specs.Entries.{named, narrowed_by, new_of, placed_of}
-use Rattle.type_taxonomy.specs.TypeForest.{IsForest, HasRows}
+use Rattle.type_taxonomy.specs.steps.Entries.{named, narrowed_by, new_of, placed_of}
+use Rattle.type_taxonomy.specs.steps.TypeForest.{IsForest, HasRows}
 use Rattle.type_taxonomy.proofs.ForestLaws.{line_step, placed_of_step}
 use Rattle.type_taxonomy.proofs.Items.{length_table}
 

@@ -11,7 +11,7 @@ use Rattle.prod_model.specs.declared.model.PortDecl.{PortDecl}
 use Rattle.prod_model.specs.Names.{same_text}
 use Rattle.prod_model.specs.Forest.{line}
 use Rattle.prod_model.specs.Taxonomy.{Named, declarations_of, new_declarations, first_id, new_entries, kept_entry, extended_entries, entries_of, made_attribute, made_port, attributes_of, ports_of}
-use Rattle.type_taxonomy.specs.Entries.{placed, placed_again, placed_of}
+use Rattle.type_taxonomy.specs.steps.Entries.{placed, placed_again, placed_of}
 
 -- the same name, and something else
 abbrev pub under : {A B : Type 0} → (A → B) → Named A → Named B

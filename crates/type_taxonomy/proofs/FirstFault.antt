@@ -15,10 +15,12 @@ use Rattle.prod_model.specs.Forest.{is_in_circle}
 use Rattle.prod_model.specs.Valid.{knows_types, has_room_at}
 use Rattle.type_taxonomy.specs.declared.fault.TaxFault.{TaxFault}
 use Rattle.type_taxonomy.specs.declared.fault.TaxFault.TheVariants.{UnknownParent, Cycle, Widening, Crowded}
-use Rattle.type_taxonomy.specs.Built.{attribute_narrows_at, port_narrows_at, NarrowsAll, IsWideningOf, IsFirstWidening, of_attribute, of_port}
+use Rattle.type_taxonomy.specs.steps.Built.{attribute_narrows_at, port_narrows_at, NarrowsAll, IsWideningOf, IsFirstWidening, of_attribute, of_port}
 use Rattle.type_taxonomy.specs.Faults.{Has, HasTaxFault, unknown_parent, cycle, wider_attribute, wider_port, crowded, rank_of, IsFaultBefore, IsFirstTaxFault, Faults}
-use Rattle.type_taxonomy.specs.Firsts.{IsFirstFailing}
-use Rattle.type_taxonomy.specs.Nearest.{attribute_narrows_nearest, port_narrows_nearest}
+use Rattle.type_taxonomy.specs.steps.Firsts.{IsFirstFailing}
+use Rattle.type_taxonomy.specs.Nearest.{AttributeNarrows, PortNarrows}
+use Rattle.type_taxonomy.specs.steps.NearestTests.{attribute_narrows_nearest, port_narrows_nearest}
+use Rattle.type_taxonomy.proofs.NearestCases.{attribute_passed, attribute_failed, port_passed, port_failed}
 
 -- ---- the order of ranks
 
@@ -55,11 +57,17 @@ told_apart p xs k x has fails passes = let there = ap (λ o. option_map_or p o t
 not_both : (b : Bool) → IsTrue b → IsTrue (not b) → ⊥
 not_both b holds fails = let turned = ap not holds in cc
 
-no_wide_attribute : (m : Model) (t : ℕ) (d : TypeDecl) (k : ℕ) (a : AttrDecl) → Has d.attributes k a → IsFalse (attribute_narrows_nearest m t a) → NarrowsAll m t d → ⊥
-no_wide_attribute m t d k a has fails all = told_apart (attribute_narrows_nearest m t) d.attributes k a has fails (all.attributes k (slice_get_within d.attributes k a has))
+wide_attribute_told : (m : Model) (t : ℕ) (d : TypeDecl) (k : ℕ) (a : AttrDecl) → Has d.attributes k a → (AttributeNarrows m t a → ⊥) → IsTrue (attribute_narrows_at m t d k) → ⊥
+wide_attribute_told m t d k a has fails passes = fails (attribute_passed m t a (sym (ap (λ o. option_map_or (attribute_narrows_nearest m t) o true) has) ∙ passes))
 
-no_wide_port : (m : Model) (t : ℕ) (d : TypeDecl) (k : ℕ) (p : PortDecl) → Has d.ports k p → IsFalse (port_narrows_nearest m t p) → NarrowsAll m t d → ⊥
-no_wide_port m t d k p has fails all = told_apart (port_narrows_nearest m t) d.ports k p has fails (all.ports k (slice_get_within d.ports k p has))
+wide_port_told : (m : Model) (t : ℕ) (d : TypeDecl) (k : ℕ) (p : PortDecl) → Has d.ports k p → (PortNarrows m t p → ⊥) → IsTrue (port_narrows_at m t d k) → ⊥
+wide_port_told m t d k p has fails passes = fails (port_passed m t p (sym (ap (λ o. option_map_or (port_narrows_nearest m t) o true) has) ∙ passes))
+
+no_wide_attribute : (m : Model) (t : ℕ) (d : TypeDecl) (k : ℕ) (a : AttrDecl) → Has d.attributes k a → (AttributeNarrows m t a → ⊥) → NarrowsAll m t d → ⊥
+no_wide_attribute m t d k a has fails all = wide_attribute_told m t d k a has fails (all.attributes k (slice_get_within d.attributes k a has))
+
+no_wide_port : (m : Model) (t : ℕ) (d : TypeDecl) (k : ℕ) (p : PortDecl) → Has d.ports k p → (PortNarrows m t p → ⊥) → NarrowsAll m t d → ⊥
+no_wide_port m t d k p has fails all = wide_port_told m t d k p has fails (all.ports k (slice_get_within d.ports k p has))
 
 -- ---- none before
 
@@ -120,7 +128,7 @@ none_before_attribute m t k d here known free narrow below y (wider_attribute u 
       | inr same ↦ elim (before_head j k Equal same.1) [
         | inl less ↦
             let equal = same_type m.types u t e d same.0 has here in
-            told_apart (attribute_narrows_nearest m u) e.attributes j a has_a fails (same_place attribute_narrows_at m t u d e j same.0 equal (below j less))
+            wide_attribute_told m u e j a has_a fails (same_place attribute_narrows_at m t u d e j same.0 equal (below j less))
         | inr equal ↦ let never = equal.1 in cc
       ]
     ]
@@ -143,7 +151,7 @@ none_before_port m t k d here known free narrow attributes below y (wider_attrib
       | inr same ↦
           let equal = same_type m.types u t e d same.0 has here in
           let there = ap (λ f. slice_get f.attributes j) (sym equal) in
-          told_apart (attribute_narrows_nearest m u) e.attributes j a has_a fails
+          wide_attribute_told m u e j a has_a fails
           (same_place attribute_narrows_at m t u d e j same.0 equal (attributes j (slice_get_within d.attributes j a (there ∙ has_a))))
     ]
 none_before_port m t k d here known free narrow attributes below y (wider_port u j e p is has has_p fails) before =
@@ -152,7 +160,7 @@ none_before_port m t k d here known free narrow attributes below y (wider_port u
       | inr same ↦ elim (before_head j k Equal same.1) [
         | inl less ↦
             let equal = same_type m.types u t e d same.0 has here in
-            told_apart (port_narrows_nearest m u) e.ports j p has_p fails (same_place port_narrows_at m t u d e j same.0 equal (below j less))
+            wide_port_told m u e j p has_p fails (same_place port_narrows_at m t u d e j same.0 equal (below j less))
         | inr equal ↦ let never = equal.1 in cc
       ]
     ]
@@ -187,14 +195,14 @@ widening_of_first : (m : Model) (f : TaxFault) (t : ℕ) (d : TypeDecl) → Has 
 widening_of_first m f t d here known free narrow (of_attribute k is first) =
     let found = failing (attribute_narrows_nearest m t) d.attributes k (slice_get d.attributes k) refl first.1 in
     let this : IsFirstTaxFault m (Widening t false k) = record {
-      is = wider_attribute t k d found.0 refl here found.1 found.2;
+      is = wider_attribute t k d found.0 refl here found.1 (attribute_failed m t found.0 found.2);
       none_before = none_before_attribute m t k d here known free narrow first.2;
     } in
     subst (Faults m) (sym is) this
 widening_of_first m f t d here known free narrow (of_port k is attributes first) =
     let found = failing (port_narrows_nearest m t) d.ports k (slice_get d.ports k) refl first.1 in
     let this : IsFirstTaxFault m (Widening t true k) = record {
-      is = wider_port t k d found.0 refl here found.1 found.2;
+      is = wider_port t k d found.0 refl here found.1 (port_failed m t found.0 found.2);
       none_before = none_before_port m t k d here known free narrow attributes first.2;
     } in
     subst (Faults m) (sym is) this

@@ -6,7 +6,7 @@ use Rattle.std.proofs.lemmas.List.Sums.{fold-append}
 use Rattle.prod_model.specs.declared.model.TypeDecl.{TypeDecl}
 use Rattle.prod_model.specs.Forest.{line, line_within}
 use Rattle.prod_model.specs.Taxonomy.{extended_entries}
-use Rattle.type_taxonomy.specs.Entries.{placed, placed_again, narrowed_by, new_of, placed_of}
+use Rattle.type_taxonomy.specs.steps.Entries.{placed, placed_again, narrowed_by, new_of, placed_of}
 use Rattle.type_taxonomy.proofs.Lines.{line_within_some}
 
 stable_parent : (most : ℕ) (types : List TypeDecl) (parent : Option ℕ)

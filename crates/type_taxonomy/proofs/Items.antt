@@ -45,9 +45,9 @@ pub sum_by_range_more : (g : ℕ → ℕ) (a n : ℕ) → sum_by g (range_with_l
 sum_by_range_more g a n = ap (sum_by g) (range_more a n) ∙ sum_by-append g (range_with_len a n) ((a + n) ∷ []) ∙ ap (λ k. sum_by g (range_with_len a n) + k) (sum_by_one g (a + n))
 
 -- a sum within that of the items so far, after one item more
-pub sum_by_more_le : {X : Type 0} (f : X → ℕ) (xs : List X) (i : ℕ) (x : X) (n k : ℕ) → i < length xs → x ≡ get_or xs i x → n ≤ sum_by f (take i xs) → k ≤ f x
+pub sum_by_take_le : {X : Type 0} (f : X → ℕ) (xs : List X) (i : ℕ) (x : X) (n k : ℕ) → i < length xs → x ≡ get_or xs i x → n ≤ sum_by f (take i xs) → k ≤ f x
     → n + k ≤ sum_by f (take (i + 1) xs)
-sum_by_more_le f xs i x n k within is few more =
+sum_by_take_le f xs i x n k within is few more =
     let parts : sum_by f (take (i + 1) xs) ≡ sum_by f (take i xs) + f (get_or xs i x) =
     ap (sum_by f) (take_more xs i x within) ∙ sum_by-append f (take i xs) (get_or xs i x ∷ []) ∙ ap (λ k. sum_by f (take i xs) + k) (sum_by_one f (get_or xs i x)) in
     omega (arith, parts, ap f is)

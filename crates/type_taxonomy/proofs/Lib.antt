@@ -12,6 +12,7 @@ pub mod Inherited
 pub mod Items
 pub mod Lines
 pub mod NarrowingLaws
+pub mod NearestCases
 pub mod NearestLaws
 pub mod NewEntries
 pub mod RowLaws

@@ -1,17 +1,18 @@
 -- A declaration narrows what its type inherits exactly if no ancestor declares its name in the other sort, and it narrows the nearest.
-use Rattle.std.proofs.Common.{◌≡◌, ℕ, Bool, true, ◌&&◌, nat_le, IsTrue, List, sym, ap, ◌∙◌, refl, Option, Some, None, is_none}
+use Rattle.std.proofs.Common.{◌≡◌, ℕ, Bool, true, ◌&&◌, IsTrue, List, sym, ap, ◌∙◌, refl, Option, Some, None, is_none}
 use Rattle.std.specs.Option.{option_map_or}
 use Rattle.std.proofs.lemmas.Option.{slice_get_within}
 use Rattle.prod_model.specs.declared.model.Model.{Model}
 use Rattle.prod_model.specs.declared.model.TypeDecl.{TypeDecl}
 use Rattle.prod_model.specs.declared.model.AttrDecl.{AttrDecl}
 use Rattle.prod_model.specs.declared.model.PortDecl.{PortDecl}
-use Rattle.prod_model.specs.Forest.{is_a, ancestors}
-use Rattle.prod_model.specs.Valid.{narrows_domain, same_kind, attribute_narrows, port_narrows, has_distinct_names}
-use Rattle.type_taxonomy.specs.Built.{NarrowsAll}
+use Rattle.prod_model.specs.Forest.{ancestors}
+use Rattle.prod_model.specs.Valid.{narrows_domain, attribute_narrows, port_narrows, has_distinct_names}
+use Rattle.type_taxonomy.specs.steps.Built.{NarrowsAll}
 use Rattle.type_taxonomy.specs.Faults.{Has}
-use Rattle.type_taxonomy.specs.Nearest.{nearest, attribute_narrows_nearest, port_narrows_nearest}
-use Rattle.type_taxonomy.specs.TypeForest.{IsForest}
+use Rattle.type_taxonomy.specs.Nearest.{nearest}
+use Rattle.type_taxonomy.specs.steps.NearestTests.{lies_within, attribute_narrows_nearest, port_narrows_nearest}
+use Rattle.type_taxonomy.specs.steps.TypeForest.{IsForest}
 use Rattle.type_taxonomy.proofs.BoolFacts.{and_parts}
 use Rattle.type_taxonomy.proofs.DistinctNames.{no_port, no_attribute}
 use Rattle.type_taxonomy.proofs.Inherited.{placed_above, is_none_map, map_or_map, attribute_told, port_told}
@@ -78,30 +79,26 @@ module _ (m : Model) (forest : IsForest m.types) where
 
   -- ---- ports
 
-  -- the port lies within the wide one
-  abbrev within_port : PortDecl → PortDecl → Bool
-  within_port p q = same_kind p.kind q.kind && nat_le q.low p.low && nat_le p.high q.high && is_a m p.target q.target
-
   port_by : (t : ℕ) (d : TypeDecl) (p : PortDecl) → Has m.types t d
-      → (is_none (first_attribute m t p.name) && option_map_or (within_port p) (first_port m t p.name) true) ≡ port_narrows m d p
+      → (is_none (first_attribute m t p.name) && option_map_or (lies_within m p) (first_port m t p.name) true) ≡ port_narrows m d p
   port_by t d p is_type =
       let ports = placed_above (λ e. e.ports) (λ q. q.name) m.types d.parent p.name in
       let attributes = placed_above (λ e. e.attributes) (λ a. a.name) m.types d.parent p.name in
-      port_told m d p (is_none (first_attribute m t p.name)) (option_map_or (within_port p) (first_port m t p.name) true)
+      port_told m d p (is_none (first_attribute m t p.name)) (option_map_or (lies_within m p) (first_port m t p.name) true)
       (ap is_none (sym (above_nearest (λ e. e.attributes) (λ a. a.name) m.types t d p.name forest is_type)) ∙ is_none_map (λ e. e.what.1) attributes)
-      (ap (λ o. option_map_or (within_port p) o true) (sym (above_nearest (λ e. e.ports) (λ q. q.name) m.types t d p.name forest is_type))
-      ∙ map_or_map (within_port p) (λ e. e.what.1) ports true)
+      (ap (λ o. option_map_or (lies_within m p) o true) (sym (above_nearest (λ e. e.ports) (λ q. q.name) m.types t d p.name forest is_type))
+      ∙ map_or_map (lies_within m p) (λ e. e.what.1) ports true)
 
   port_same : (t : ℕ) (d : TypeDecl) (p : PortDecl) → Has m.types t d → first_attribute m t p.name ≡ None → port_narrows_nearest m t p ≡ port_narrows m d p
   port_same t d p is_type none =
-      let within = option_map_or (within_port p) (first_port m t p.name) true in
-      nearest_told (λ e. e.ports) (λ q. q.name) (λ e. e.attributes) (λ a. a.name) either_port (within_port p) p.name (above m t) none
+      let within = option_map_or (lies_within m p) (first_port m t p.name) true in
+      nearest_told (λ e. e.ports) (λ q. q.name) (λ e. e.attributes) (λ a. a.name) either_port (lies_within m p) p.name (above m t) none
       ∙ ap (λ o. is_none o && within) (sym none) ∙ port_by t d p is_type
 
   -- a port that narrows what is inherited narrows the nearest
   pub port_back : (t : ℕ) (d : TypeDecl) (p : PortDecl) → Has m.types t d → port_narrows m d p ≡ true → port_narrows_nearest m t p ≡ true
   port_back t d p is_type narrows =
-      let parts = and_parts (is_none (first_attribute m t p.name)) (option_map_or (within_port p) (first_port m t p.name) true) (port_by t d p is_type ∙ narrows) in
+      let parts = and_parts (is_none (first_attribute m t p.name)) (option_map_or (lies_within m p) (first_port m t p.name) true) (port_by t d p is_type ∙ narrows) in
       port_same t d p is_type (is_nothing (first_attribute m t p.name) parts.0) ∙ narrows
 
   port_at : (t k : ℕ) (d : TypeDecl) (p : PortDecl) → NarrowsEach m → Has m.types t d → Has d.ports k p → port_narrows_nearest m t p ≡ true
@@ -114,7 +111,7 @@ module _ (m : Model) (forest : IsForest m.types) where
       let none : first_attribute m t p.name ≡ None =
       none_above (λ e. e.ports) (λ q. q.name) (λ e. e.attributes) (λ a. a.name) either_port m.types forest
       (λ u e name is_kind some. no_attribute m u e name distinct is_kind some)
-      (λ u j e q is_kind has_q. has_of (λ e. e.ports) (λ q. q.name) (λ e. e.attributes) (λ a. a.name) either_port (within_port q) q.name (nearest m.types u q.name)
+      (λ u j e q is_kind has_q. has_of (λ e. e.ports) (λ q. q.name) (λ e. e.attributes) (λ a. a.name) either_port (lies_within m q) q.name (nearest m.types u q.name)
       (port_at u j e q each is_kind has_q))
       t k d p is_type has in
       sym (port_same t d p is_type none) ∙ port_at t k d p each is_type has

@@ -10,8 +10,8 @@ use Rattle.prod_model.specs.Forest.{line, line_within, ancestors}
 use Rattle.prod_model.specs.Names.{same_text}
 use Rattle.prod_model.specs.Taxonomy.{Named, declarations_of, kept_entry, new_declarations, first_id, extended_entries}
 use Rattle.prod_model.proofs.NameLaws.{same_text_symm}
-use Rattle.type_taxonomy.specs.Entries.{placed, placed_again, is_new_among, numbered, narrowed_by, new_of, placed_of}
-use Rattle.type_taxonomy.specs.TypeForest.{IsForest}
+use Rattle.type_taxonomy.specs.steps.Entries.{placed, placed_again, is_new_among, numbered, narrowed_by, new_of, placed_of}
+use Rattle.type_taxonomy.specs.steps.TypeForest.{IsForest}
 use Rattle.type_taxonomy.proofs.Filling.{length_line_parent}
 use Rattle.type_taxonomy.proofs.ForestLaws.{line_step, placed_of_step}
 use Rattle.type_taxonomy.proofs.Inherited.{find_map_cons, placed_above}

@@ -7,7 +7,7 @@ use Rattle.prod_model.specs.declared.model.TypeDecl.{TypeDecl}
 use Rattle.prod_model.specs.Forest.{line}
 use Rattle.prod_model.specs.Taxonomy.{first_id, new_declarations}
 use Rattle.type_taxonomy.specs.declared.entry.Entry.{Entry}
-use Rattle.type_taxonomy.specs.Entries.{named, is_new_among, numbered}
+use Rattle.type_taxonomy.specs.steps.Entries.{named, is_new_among, numbered}
 use Rattle.type_taxonomy.proofs.Items.{filter_more, sum_by_range_more, length_filter_le}
 
 module _ {D : Type 0} (declared : TypeDecl → List D) (name_of : D → List ℕ) where

@@ -8,8 +8,8 @@ use Rattle.prod_model.specs.declared.model.TypeDecl.{TypeDecl}
 use Rattle.prod_model.specs.Names.{same_text}
 use Rattle.prod_model.specs.Taxonomy.{kept_entry}
 use Rattle.type_taxonomy.specs.declared.entry.Entry.{Entry}
-use Rattle.type_taxonomy.specs.ByName.{found_at}
-use Rattle.type_taxonomy.specs.Entries.{named, placed, placed_again, narrowed_by}
+use Rattle.type_taxonomy.specs.steps.ByName.{found_at}
+use Rattle.type_taxonomy.specs.steps.Entries.{named, placed, placed_again, narrowed_by}
 
 cond_passes : {X : Type 0} (p : X → Bool) (b : Bool) (y x : X) (rest : Option X) → p y ≡ b → (rest ≡ Some x → p x ≡ true) → cond b (Some y) rest ≡ Some x → p x ≡ true
 cond_passes p true y x rest is later found =

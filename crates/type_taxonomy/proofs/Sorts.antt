@@ -9,7 +9,7 @@ use Rattle.prod_model.specs.declared.model.TypeDecl.{TypeDecl}
 use Rattle.prod_model.specs.Forest.{line, ancestors}
 use Rattle.prod_model.specs.Names.{same_text}
 use Rattle.type_taxonomy.specs.Nearest.{declares}
-use Rattle.type_taxonomy.specs.TypeForest.{IsForest}
+use Rattle.type_taxonomy.specs.steps.TypeForest.{IsForest}
 use Rattle.type_taxonomy.proofs.Filling.{length_line_parent}
 use Rattle.type_taxonomy.proofs.NearestLaws.{kinds_of, of_name, first_named, ancestors_step, kinds_step, line_none, or_none}
 use Rattle.type_taxonomy.proofs.RowLaws.{find_passes}

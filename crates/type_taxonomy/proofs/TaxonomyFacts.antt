@@ -11,12 +11,12 @@ use Rattle.prod_model.specs.Valid.{knows_types, has_known_parents, attribute_nar
 use Rattle.prod_model.proofs.ListLaws.{list_all_below}
 use Rattle.prod_model.proofs.ForestLines.{line_short, no_cycle}
 use Rattle.type_taxonomy.specs.declared.fault.TaxFault.{TaxFault}
-use Rattle.type_taxonomy.specs.Built.{NarrowsAll}
+use Rattle.type_taxonomy.specs.steps.Built.{NarrowsAll}
 use Rattle.type_taxonomy.specs.Faults.{Has, HasTaxFault, unknown_parent, cycle, wider_attribute, wider_port, crowded}
-use Rattle.type_taxonomy.specs.Nearest.{attribute_narrows_nearest, port_narrows_nearest}
-use Rattle.type_taxonomy.specs.TypeForest.{IsForest}
+use Rattle.type_taxonomy.specs.steps.TypeForest.{IsForest}
 use Rattle.type_taxonomy.proofs.BoolFacts.{and_both, and_parts, list_all_each, list_all_at, list_all_range, opposite}
 use Rattle.type_taxonomy.proofs.FirstFault.{KnowsBelow, HasNoCircleBelow, HasRoomBelow}
+use Rattle.type_taxonomy.proofs.NearestCases.{attribute_passed, port_passed}
 use Rattle.type_taxonomy.proofs.NarrowingLaws.{attribute_back, attribute_on, port_back, port_on}
 
 -- ---- tests of each element
@@ -93,9 +93,9 @@ pub taxonomy_has_no_fault : (m : Model) (f : TaxFault) → IsTaxonomy m → HasT
 taxonomy_has_no_fault m f taxonomy (unknown_parent t d is has fails) = fails_and_passes (knows_types m d) fails (knows_each m t d taxonomy has)
 taxonomy_has_no_fault m f taxonomy (cycle t is within circle) = fails_and_passes (is_in_circle m t) (free_each m t taxonomy within) circle
 taxonomy_has_no_fault m f taxonomy (wider_attribute t k d a is has has_a fails) =
-    fails_and_passes (attribute_narrows_nearest m t a) fails
-    (attribute_back m (forest_of m taxonomy) t d a has (list_all_at (attribute_narrows m d) d.attributes k a (and_parts _ _ (narrows_each m t d taxonomy has)).0 has_a))
+    fails (attribute_passed m t a
+    (attribute_back m (forest_of m taxonomy) t d a has (list_all_at (attribute_narrows m d) d.attributes k a (and_parts _ _ (narrows_each m t d taxonomy has)).0 has_a)))
 taxonomy_has_no_fault m f taxonomy (wider_port t k d p is has has_p fails) =
-    fails_and_passes (port_narrows_nearest m t p) fails
-    (port_back m (forest_of m taxonomy) t d p has (list_all_at (port_narrows m d) d.ports k p (and_parts _ _ (narrows_each m t d taxonomy has)).1 has_p))
+    fails (port_passed m t p
+    (port_back m (forest_of m taxonomy) t d p has (list_all_at (port_narrows m d) d.ports k p (and_parts _ _ (narrows_each m t d taxonomy has)).1 has_p)))
 taxonomy_has_no_fault m f taxonomy (crowded t is within full) = fails_and_passes (has_room_at m t) full (room_each m t taxonomy within)

@@ -1,5 +1,5 @@
 -- Which declarations narrow the nearest of their names, one more type at a time.
-use Rattle.std.proofs.Common.{◌≡◌, ℕ, ◌+◌, ◌<◌, ◌≤◌, ◌⊎◌, Bool, true, ◌&&◌, nat_le, List, length, map, drop, get_or, inl, inr, sym, ap, subst, ◌∙◌, Option, Some, slice_get, arith}
+use Rattle.std.proofs.Common.{◌≡◌, ℕ, ◌+◌, ◌<◌, ◌≤◌, ◌⊎◌, Bool, true, List, length, map, drop, get_or, inl, inr, sym, ap, subst, ◌∙◌, Option, Some, slice_get, arith}
 use Rattle.std.specs.Option.{option_map_or}
 use Rattle.std.proofs.lemmas.Bool.{cases_eq}
 use Rattle.std.proofs.lemmas.Option.{slice_get_within}
@@ -7,15 +7,15 @@ use Rattle.prod_model.specs.declared.model.Model.{Model}
 use Rattle.prod_model.specs.declared.model.TypeDecl.{TypeDecl}
 use Rattle.prod_model.specs.declared.model.AttrDecl.{AttrDecl}
 use Rattle.prod_model.specs.declared.model.PortDecl.{PortDecl}
-use Rattle.prod_model.specs.Forest.{line as line_of, ancestors, type_numbers, is_a}
-use Rattle.prod_model.specs.Valid.{narrows_domain, same_kind}
+use Rattle.prod_model.specs.Forest.{line as line_of, ancestors, type_numbers}
+use Rattle.prod_model.specs.Valid.{narrows_domain}
 use Rattle.type_taxonomy.specs.declared.above.Above.{Above}
-use Rattle.type_taxonomy.specs.ByName.{found}
-use Rattle.type_taxonomy.specs.Above.{found_along, passes_nearest, IsAbove, attribute_passes, port_passes}
-use Rattle.type_taxonomy.specs.Built.{attribute_narrows_at, port_narrows_at, NarrowsAll}
+use Rattle.type_taxonomy.specs.steps.ByName.{found}
+use Rattle.type_taxonomy.specs.steps.Above.{found_along, passes_nearest, IsAbove, attribute_passes, port_passes}
+use Rattle.type_taxonomy.specs.steps.Built.{attribute_narrows_at, port_narrows_at, NarrowsAll}
 use Rattle.type_taxonomy.specs.Faults.{Has}
-use Rattle.type_taxonomy.specs.Firsts.{IsFirstFailing}
-use Rattle.type_taxonomy.specs.Nearest.{attribute_narrows_nearest, port_narrows_nearest}
+use Rattle.type_taxonomy.specs.steps.Firsts.{IsFirstFailing}
+use Rattle.type_taxonomy.specs.steps.NearestTests.{lies_within, attribute_narrows_nearest, port_narrows_nearest}
 use Rattle.type_taxonomy.proofs.AboveLaws.{nearer}
 use Rattle.type_taxonomy.proofs.Items.{table_row}
 use Rattle.type_taxonomy.proofs.Sorts.{either_attribute, either_port}
@@ -33,7 +33,7 @@ attribute_pass m t above are a =
 port_pass : (m : Model) (t : ℕ) (above : Above) → IsAbove m.types (ancestors m.types t) above → (p : PortDecl) → port_passes m above p ≡ port_narrows_nearest m t p
 unfolding port_passes
 port_pass m t above are p =
-    let test = λ (q : PortDecl). same_kind p.kind q.kind && nat_le q.low p.low && nat_le p.high q.high && is_a m p.target q.target in
+    let test = lies_within m p in
     ap (λ o. passes_nearest test o (found above.attributes p.name)) (are.ports p.name)
     ∙ ap (passes_nearest test (found_along (λ d. d.ports) (λ q. q.name) m.types (ancestors m.types t) p.name)) (are.attributes p.name)
     ∙ sym (nearer (λ d. d.ports) (λ q. q.name) (λ d. d.attributes) (λ a. a.name) either_port test m.types (ancestors m.types t) p.name)

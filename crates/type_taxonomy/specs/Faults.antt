@@ -11,7 +11,7 @@ use Rattle.prod_model.specs.Forest.{is_in_circle}
 use Rattle.prod_model.specs.Valid.{knows_types, has_room_at}
 use Rattle.type_taxonomy.specs.declared.fault.TaxFault.{TaxFault}
 use Rattle.type_taxonomy.specs.declared.fault.TaxFault.TheVariants.{UnknownParent, Cycle, Widening, Crowded, Memory}
-use Rattle.type_taxonomy.specs.Nearest.{attribute_narrows_nearest, port_narrows_nearest}
+use Rattle.type_taxonomy.specs.Nearest.{AttributeNarrows, PortNarrows}
 
 -- that place of the list has this
 abbrev pub Has : {A : Type 0} → List A → ℕ → A → Type 0
@@ -19,13 +19,15 @@ Has xs k x = slice_get xs k ≡ Some x
 
 -- The model has this fault. Want of memory is none.
 pub data HasTaxFault (m : Model) (f : TaxFault) : Type 0 where
-  unknown_parent : (t : ℕ) (d : TypeDecl) → f ≡ UnknownParent t → Has m.types t d → IsFalse (knows_types m d) → HasTaxFault m f
+  unknown_parent : (t : ℕ) (d : TypeDecl) → f ≡ UnknownParent t → Has m.types t d
+      → IsFalse (knows_types m d) → HasTaxFault m f
   cycle : (t : ℕ) → f ≡ Cycle t → t < length m.types → IsTrue (is_in_circle m t) → HasTaxFault m f
-  wider_attribute : (t k : ℕ) (d : TypeDecl) (a : AttrDecl) → f ≡ Widening t false k → Has m.types t d → Has d.attributes k a
-      → IsFalse (attribute_narrows_nearest m t a) → HasTaxFault m f
-  wider_port : (t k : ℕ) (d : TypeDecl) (p : PortDecl) → f ≡ Widening t true k → Has m.types t d → Has d.ports k p
-      → IsFalse (port_narrows_nearest m t p) → HasTaxFault m f
-  crowded : (t : ℕ) → f ≡ Crowded t → t < length m.types → IsFalse (has_room_at m t) → HasTaxFault m f
+  wider_attribute : (t k : ℕ) (d : TypeDecl) (a : AttrDecl) → f ≡ Widening t false k
+      → Has m.types t d → Has d.attributes k a → ¬ AttributeNarrows m t a → HasTaxFault m f
+  wider_port : (t k : ℕ) (d : TypeDecl) (p : PortDecl) → f ≡ Widening t true k
+      → Has m.types t d → Has d.ports k p → ¬ PortNarrows m t p → HasTaxFault m f
+  crowded : (t : ℕ) → f ≡ Crowded t → t < length m.types → IsFalse (has_room_at m t)
+      → HasTaxFault m f
 
 -- by kind of fault, then by type, then attributes before ports, and then by place
 abbrev pub rank_of : TaxFault → List ℕ
@@ -35,9 +37,11 @@ rank_of (Widening t port k) = 2 ∷ t ∷ (if port then 1 else 0) ∷ k ∷ []
 rank_of (Crowded t) = 3 ∷ t ∷ []
 rank_of Memory = []
 
+-- the first fault comes before the second one
 abbrev pub IsFaultBefore : TaxFault → TaxFault → Type 0
 IsFaultBefore f g = IsTrue (is_lt (slice_cmp nat_cmp (rank_of f) (rank_of g)))
 
+-- the first fault that the model has
 abbrev pub IsFirstTaxFault : Model → TaxFault → Type 0
 IsFirstTaxFault m = IsFirst (HasTaxFault m) IsFaultBefore
 

@@ -1,9 +1,4 @@
-pub mod Above
-pub mod Built
-pub mod ByName
-pub mod Entries
 pub mod Faults
-pub mod Firsts
 pub mod Laws
 pub mod Nearest
-pub mod TypeForest
+pub mod steps

@@ -1,8 +1,8 @@
 //! What the ancestors of a type declare, by name.
 ghost use Rattle.std.specs.Prelude.{◌≡◌, ℕ, List, drop, IfOk};
 ghost use Rattle.prod_model.specs.Taxonomy.{declarations_of};
-ghost use Rattle.type_taxonomy.specs.Above.{found_along, IsAbove};
-ghost use Rattle.type_taxonomy.specs.ByName.{found};
+ghost use Rattle.type_taxonomy.specs.steps.Above.{found_along, IsAbove};
+ghost use Rattle.type_taxonomy.specs.steps.ByName.{found};
 
 use crate::by_name::{Found, put_all};
 use crate::declaration::Declaration;

@@ -2,7 +2,7 @@
 ghost use Rattle.std.specs.Prelude.{◌≡◌, ℕ, List, cond, is_none, Some, IfOk, OnOk};
 ghost use Rattle.std.specs.Option.{option_map, option_or};
 ghost use Rattle.prod_model.specs.Names.{same_text};
-ghost use Rattle.type_taxonomy.specs.ByName.{found, found_at};
+ghost use Rattle.type_taxonomy.specs.steps.ByName.{found, found_at};
 
 use crate::declaration::Declaration;
 use indexmap::IndexMap;

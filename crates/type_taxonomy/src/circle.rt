@@ -2,8 +2,8 @@
 ghost use Rattle.std.specs.Prelude.{◌≡◌, ◌<◌, ◌==◌, ◌^◌, not, length, drop};
 ghost use Rattle.std.specs.List.{list_any};
 ghost use Rattle.prod_model.specs.Forest.{is_in_circle};
-ghost use Rattle.type_taxonomy.specs.Entries.{AreLines};
-ghost use Rattle.type_taxonomy.specs.Firsts.{IsFirstFailing};
+ghost use Rattle.type_taxonomy.specs.steps.Entries.{AreLines};
+ghost use Rattle.type_taxonomy.specs.steps.Firsts.{IsFirstFailing};
 
 use prod_model::{Items, Model};
 

@@ -1,8 +1,8 @@
 //! What is known of the types of a model, once they are a forest.
 ghost use Rattle.std.specs.Prelude.{◌≡◌, ◌<◌, ◌^◌, length, sum_by, IfOk};
-ghost use Rattle.type_taxonomy.specs.Entries.{AreLines};
-ghost use Rattle.type_taxonomy.specs.Built.{IsBuilt};
-ghost use Rattle.type_taxonomy.specs.TypeForest.{IsForest};
+ghost use Rattle.type_taxonomy.specs.steps.Entries.{AreLines};
+ghost use Rattle.type_taxonomy.specs.steps.Built.{IsBuilt};
+ghost use Rattle.type_taxonomy.specs.steps.TypeForest.{IsForest};
 
 use crate::entry::Entry;
 use crate::new_entries::all_new;

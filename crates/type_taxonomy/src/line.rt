@@ -2,7 +2,7 @@
 ghost use Rattle.std.specs.Prelude.{◌≡◌, ◌≢◌, ◌==◌, ◌<◌, ◌≤◌, ◌+◌, length, map, IfOk, All, Contains};
 ghost use Rattle.std.specs.List.{list_any};
 ghost use Rattle.prod_model.specs.Forest.{line};
-ghost use Rattle.type_taxonomy.specs.Entries.{AreLines};
+ghost use Rattle.type_taxonomy.specs.steps.Entries.{AreLines};
 
 use prod_model::{Items, TypeDecl};
 use std::alloc::{AllocError, Global};

@@ -5,9 +5,9 @@ ghost use Rattle.std.specs.List.{list_any, list_all};
 ghost use Rattle.prod_model.specs.Forest.{is_a};
 ghost use Rattle.prod_model.specs.Names.{same_text};
 ghost use Rattle.prod_model.specs.Valid.{narrows_domain, same_kind};
-ghost use Rattle.type_taxonomy.specs.Above.{attribute_passes, port_passes};
-ghost use Rattle.type_taxonomy.specs.Built.{IsBuilt};
-ghost use Rattle.type_taxonomy.specs.ByName.{found};
+ghost use Rattle.type_taxonomy.specs.steps.Above.{attribute_passes, port_passes};
+ghost use Rattle.type_taxonomy.specs.steps.Built.{IsBuilt};
+ghost use Rattle.type_taxonomy.specs.steps.ByName.{found};
 
 use crate::above::Above;
 use crate::by_name::{Found, is_free, look_up};
@@ -88,7 +88,7 @@ fn is_nearer<D>(names: &IndexMap<&[u8], Found<D>>, name: &Name, height: usize) -
 
 /// Whether the nearest declaration of the attribute's name, if there is one, is an attribute, whose domain the
 /// attribute's lies within.
-#[tactic(auto, unfolding(crate::specs::Above::attribute_passes))]
+#[tactic(auto, unfolding(crate::specs::steps::Above::attribute_passes))]
 pub(crate) fn attribute_narrows(above: &Above, attribute: &AttrDecl) -> bool
     ensures { result ≡ attribute_passes above.now attribute.now }
 {
@@ -103,7 +103,7 @@ pub(crate) fn attribute_narrows(above: &Above, attribute: &AttrDecl) -> bool
 }
 
 /// Whether the nearest declaration of the port's name, if there is one, is a port that this one narrows.
-#[tactic(auto, unfolding(crate::specs::Above::port_passes))]
+#[tactic(auto, unfolding(crate::specs::steps::Above::port_passes))]
 pub(crate) fn port_narrows(forest: &Forest, above: &Above, port: &PortDecl) -> bool
     requires { IsBuilt forest.now }
     ensures { result ≡ port_passes forest.now.model.now above.now port.now }

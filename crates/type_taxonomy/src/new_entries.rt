@@ -1,7 +1,7 @@
 //! What is new in each type.
 ghost use Rattle.std.specs.Prelude.{◌≡◌, ◌<◌, ◌+◌, ◌^◌, length, map, sum_by, drop, IfOk};
 ghost use Rattle.std.specs.List.{filter};
-ghost use Rattle.type_taxonomy.specs.Entries.{named, is_new_among, numbered, AreLines, AreNew};
+ghost use Rattle.type_taxonomy.specs.steps.Entries.{named, is_new_among, numbered, AreLines, AreNew};
 
 use crate::above::names_above;
 use crate::by_name::is_free;

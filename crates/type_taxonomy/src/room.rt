@@ -1,8 +1,8 @@
 //! Whether types have too many attributes or ports.
 ghost use Rattle.std.specs.Prelude.{◌≡◌, ◌<◌, ◌^◌, length};
 ghost use Rattle.prod_model.specs.Valid.{has_room_at};
-ghost use Rattle.type_taxonomy.specs.Built.{IsBuilt};
-ghost use Rattle.type_taxonomy.specs.Firsts.{IsFirstFailing};
+ghost use Rattle.type_taxonomy.specs.steps.Built.{IsBuilt};
+ghost use Rattle.type_taxonomy.specs.steps.Firsts.{IsFirstFailing};
 
 use crate::forest::Forest;
 

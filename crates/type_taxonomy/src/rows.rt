@@ -2,9 +2,9 @@
 ghost use Rattle.std.specs.Prelude.{◌≡◌, ◌<◌, ◌+◌, ◌++◌, [], length, map, slice_index_or, IfSome, IfOk, OnOk};
 ghost use Rattle.std.specs.Option.{option_map_or};
 ghost use Rattle.prod_model.specs.Forest.{line};
-ghost use Rattle.type_taxonomy.specs.ByName.{found};
-ghost use Rattle.type_taxonomy.specs.Entries.{named, narrowed_by, AreLines, AreNew, AreRows};
-ghost use Rattle.type_taxonomy.specs.TypeForest.{IsForest, HasRows};
+ghost use Rattle.type_taxonomy.specs.steps.ByName.{found};
+ghost use Rattle.type_taxonomy.specs.steps.Entries.{named, narrowed_by, AreLines, AreNew, AreRows};
+ghost use Rattle.type_taxonomy.specs.steps.TypeForest.{IsForest, HasRows};
 
 use crate::by_name::{Found, look_up, names_of};
 use crate::declaration::Declaration;

@@ -1,7 +1,7 @@
 //! The tables, from what each type has.
 ghost use Rattle.std.specs.Prelude.{◌≡◌, map, IfOk};
 ghost use Rattle.prod_model.specs.Taxonomy.{tables_of, made_attribute, made_port};
-ghost use Rattle.type_taxonomy.specs.Built.{IsBuilt};
+ghost use Rattle.type_taxonomy.specs.steps.Built.{IsBuilt};
 
 use crate::entry::Entry;
 use crate::forest::Forest;

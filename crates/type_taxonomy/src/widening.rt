@@ -3,10 +3,10 @@ ghost use Rattle.std.specs.Prelude.{ℕ, ◌<◌, ◌^◌, true, length, slice_g
 ghost use Rattle.std.specs.Option.{option_map_or};
 ghost use Rattle.prod_model.specs.declared.model.TypeDecl.{TypeDecl};
 ghost use Rattle.prod_model.specs.Forest.{ancestors};
-ghost use Rattle.type_taxonomy.specs.Above.{attribute_passes, port_passes, IsAbove};
-ghost use Rattle.type_taxonomy.specs.Built.{IsBuilt, NarrowsAll, IsWideningOf, IsFirstWidening};
+ghost use Rattle.type_taxonomy.specs.steps.Above.{attribute_passes, port_passes, IsAbove};
+ghost use Rattle.type_taxonomy.specs.steps.Built.{IsBuilt, NarrowsAll, IsWideningOf, IsFirstWidening};
 ghost use Rattle.type_taxonomy.specs.Faults.{Has};
-ghost use Rattle.type_taxonomy.specs.Firsts.{IsFirstFailing};
+ghost use Rattle.type_taxonomy.specs.steps.Firsts.{IsFirstFailing};
 
 use crate::above::{Above, declared_above};
 use crate::fault::TaxFault;

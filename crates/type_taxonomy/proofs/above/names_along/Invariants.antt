@@ -1,6 +1,6 @@
 use Rattle.std.proofs.Common.{◌≡◌, ℕ, ◌≤◌, List, length, drop}
-use Rattle.type_taxonomy.specs.Above.{found_along}
-use Rattle.type_taxonomy.specs.ByName.{found}
+use Rattle.type_taxonomy.specs.steps.Above.{found_along}
+use Rattle.type_taxonomy.specs.steps.ByName.{found}
 use Rattle.type_taxonomy.proofs.above.names_along.Given as goal
 
 -- the names are those of the types from this place on

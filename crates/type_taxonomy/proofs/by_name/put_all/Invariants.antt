@@ -1,6 +1,6 @@
 use Rattle.std.proofs.Common.{◌≡◌, ℕ, ◌≤◌, List, length, drop}
 use Rattle.std.specs.Option.{option_or}
-use Rattle.type_taxonomy.specs.ByName.{found, found_at}
+use Rattle.type_taxonomy.specs.steps.ByName.{found, found_at}
 use Rattle.type_taxonomy.proofs.by_name.put_all.Given as goal
 
 -- the declarations from this place on are put

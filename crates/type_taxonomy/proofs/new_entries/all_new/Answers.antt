@@ -3,8 +3,8 @@ use Rattle.std.specs.List.{filter}
 use Rattle.std.proofs.lemmas.Option.{slice_get_read}
 use Rattle.prod_model.specs.Forest.{line}
 use Rattle.prod_model.specs.Taxonomy.{first_id, new_declarations}
-use Rattle.type_taxonomy.specs.Entries.{named, is_new_among, numbered, new_of}
-use Rattle.type_taxonomy.proofs.Items.{length_table, table_row, table_map_more, sum_by_more_le, sum_by_next_lt}
+use Rattle.type_taxonomy.specs.steps.Entries.{named, is_new_among, numbered, new_of}
+use Rattle.type_taxonomy.proofs.Items.{length_table, table_row, table_map_more, sum_by_take_le, sum_by_next_lt}
 use Rattle.type_taxonomy.proofs.NewEntries.{length_new, length_new_le, new_of_type, first_id_more}
 use Rattle.type_taxonomy.proofs.new_entries.all_new.Goals as goal
 
@@ -53,5 +53,5 @@ loop-t-preserved g c =
     record {
       rows = table_map_more (map (named it.name_of)) (new_of it.declared it.name_of types) c.loop-t.rows c.push.new.self t c.in_ok-row.row c.loop-t.invariant.rows c.in_ok-push.ensures.ok row;
       next = first_id_more it.declared it.name_of types t c.loop-t.next c.len.result c.loop-t.invariant.next (size ∙ ap length is_new);
-      few = sum_by_more_le (λ d. length (it.declared d)) types t kind c.loop-t.next c.len.result c.loop-t-test.true c.index-types-t.is c.loop-t.invariant.few few;
+      few = sum_by_take_le (λ d. length (it.declared d)) types t kind c.loop-t.next c.len.result c.loop-t-test.true c.index-types-t.is c.loop-t.invariant.few few;
     }

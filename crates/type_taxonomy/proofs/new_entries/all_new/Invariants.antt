@@ -1,7 +1,7 @@
 use Rattle.std.proofs.Common.{◌≡◌, ◌≤◌, length, map, take, sum_by}
 use Rattle.std.specs.List.{range_with_len}
 use Rattle.prod_model.specs.Taxonomy.{first_id}
-use Rattle.type_taxonomy.specs.Entries.{named, new_of}
+use Rattle.type_taxonomy.specs.steps.Entries.{named, new_of}
 use Rattle.type_taxonomy.proofs.new_entries.all_new.Given as goal
 
 -- the rows of the types so far, and how many entries they have

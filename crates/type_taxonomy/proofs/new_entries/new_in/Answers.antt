@@ -1,5 +1,5 @@
 use Rattle.std.proofs.Common.{◌≡◌, ◌+◌, length, map, drop, arith, ap, ◌∙◌}
-use Rattle.type_taxonomy.specs.Entries.{named, is_new_among}
+use Rattle.type_taxonomy.specs.steps.Entries.{named, is_new_among}
 use Rattle.type_taxonomy.proofs.AboveLaws.{new_told}
 use Rattle.type_taxonomy.proofs.Items.{length_push_le}
 use Rattle.type_taxonomy.proofs.NewEntries.{numbered_more, numbered_same}

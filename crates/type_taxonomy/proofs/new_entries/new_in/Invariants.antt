@@ -1,6 +1,6 @@
 use Rattle.std.proofs.Common.{◌≡◌, ◌≤◌, length, map, take, drop}
 use Rattle.std.specs.List.{filter}
-use Rattle.type_taxonomy.specs.Entries.{named, is_new_among, numbered}
+use Rattle.type_taxonomy.specs.steps.Entries.{named, is_new_among, numbered}
 use Rattle.type_taxonomy.proofs.new_entries.new_in.Given as goal
 
 -- the row has what is new among the declarations so far

@@ -1,6 +1,6 @@
 use Rattle.std.proofs.Common.{◌≡◌, ◌+◌, ◌<◌, length, subst, sym, arith}
 use Rattle.prod_model.specs.Forest.{line}
-use Rattle.type_taxonomy.specs.TypeForest.{HasRows}
+use Rattle.type_taxonomy.specs.steps.TypeForest.{HasRows}
 use Rattle.type_taxonomy.proofs.Filling.{lines_within, all_filled}
 use Rattle.type_taxonomy.proofs.rows.all_rows.Goals as goal
 use Rattle.type_taxonomy.proofs.rows.all_rows.Goals.{else-loop-members-test, then-loop-members-test+in_ok-fill+else-members-members-end}

@@ -1,6 +1,6 @@
 use Rattle.std.proofs.Common.{◌<◌, length}
 use Rattle.prod_model.specs.Forest.{line}
-use Rattle.type_taxonomy.specs.TypeForest.{HasRows}
+use Rattle.type_taxonomy.specs.steps.TypeForest.{HasRows}
 use Rattle.type_taxonomy.proofs.rows.all_rows.Given as goal
 
 -- the rows of shorter lines are done

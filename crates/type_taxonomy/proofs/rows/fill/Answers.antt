@@ -2,8 +2,8 @@ use Rattle.std.proofs.Common.{◌≡◌, length, map, arith, ap, sym, refl, subs
 use Rattle.std.proofs.lemmas.List.{length-map}
 use Rattle.std.proofs.lemmas.Option.{slice_get_read}
 use Rattle.prod_model.specs.Forest.{line}
-use Rattle.type_taxonomy.specs.Entries.{named, new_of}
-use Rattle.type_taxonomy.specs.TypeForest.{HasRows}
+use Rattle.type_taxonomy.specs.steps.Entries.{named, new_of}
+use Rattle.type_taxonomy.specs.steps.TypeForest.{HasRows}
 use Rattle.type_taxonomy.proofs.Items.{length_table, table_row, table_map_row}
 use Rattle.type_taxonomy.proofs.Filling.{IsFilled, row_done, fill_more, fill_past, parent_within}
 use Rattle.type_taxonomy.proofs.rows.fill.Goals as goal

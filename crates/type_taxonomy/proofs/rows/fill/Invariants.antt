@@ -1,4 +1,4 @@
-use Rattle.type_taxonomy.specs.TypeForest.{HasRows}
+use Rattle.type_taxonomy.specs.steps.TypeForest.{HasRows}
 use Rattle.type_taxonomy.proofs.Filling.{IsFilled}
 use Rattle.type_taxonomy.proofs.rows.fill.Given as goal
 

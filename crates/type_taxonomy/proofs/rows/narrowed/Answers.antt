@@ -1,5 +1,5 @@
 use Rattle.std.proofs.Common.{◌∙◌, ap}
-use Rattle.type_taxonomy.specs.ByName.{found, found_at}
+use Rattle.type_taxonomy.specs.steps.ByName.{found, found_at}
 use Rattle.type_taxonomy.proofs.RowLaws.{named_narrowed, narrowed_more}
 use Rattle.type_taxonomy.proofs.rows.narrowed.Goals as goal
 

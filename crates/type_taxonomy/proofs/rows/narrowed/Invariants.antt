@@ -1,5 +1,5 @@
 use Rattle.std.proofs.Common.{◌≡◌, map, take}
-use Rattle.type_taxonomy.specs.Entries.{named, narrowed_by}
+use Rattle.type_taxonomy.specs.steps.Entries.{named, narrowed_by}
 use Rattle.type_taxonomy.proofs.rows.narrowed.Given as goal
 
 -- the inherited entries so far, narrowed

@@ -2,9 +2,9 @@ use Rattle.std.proofs.Common.{◌^◌, ℕ, length, Some, arith, ap, subst}
 use Rattle.std.proofs.lemmas.Option.{MatchOption-at_some, MatchOption-at_none}
 use Rattle.prod_model.specs.declared.model.TypeDecl.{TypeDecl}
 use Rattle.prod_model.specs.Valid.{has_room_at}
-use Rattle.type_taxonomy.specs.Built.{NarrowsAll, IsFirstWidening}
+use Rattle.type_taxonomy.specs.steps.Built.{NarrowsAll, IsFirstWidening}
 use Rattle.type_taxonomy.specs.Faults.{Has}
-use Rattle.type_taxonomy.specs.Firsts.{IsFirstFailing}
+use Rattle.type_taxonomy.specs.steps.Firsts.{IsFirstFailing}
 use Rattle.type_taxonomy.proofs.FormedLaws.{one_of_few}
 use Rattle.type_taxonomy.proofs.FirstFault.{HasRoomBelow, unknown_first, cycle_first, widening_first, crowded_first}
 use Rattle.type_taxonomy.proofs.TaxonomyFacts.{taxonomy_is, forest_is}

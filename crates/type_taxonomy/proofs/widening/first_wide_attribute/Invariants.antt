@@ -1,6 +1,6 @@
 use Rattle.std.proofs.Common.{ℕ, ◌<◌, IsTrue, true, slice_get}
 use Rattle.std.specs.Option.{option_map_or}
-use Rattle.type_taxonomy.specs.Above.{attribute_passes}
+use Rattle.type_taxonomy.specs.steps.Above.{attribute_passes}
 use Rattle.type_taxonomy.proofs.widening.first_wide_attribute.Given as goal
 
 -- the attributes so far narrow

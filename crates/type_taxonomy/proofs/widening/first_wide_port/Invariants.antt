@@ -1,6 +1,6 @@
 use Rattle.std.proofs.Common.{ℕ, ◌<◌, IsTrue, true, slice_get}
 use Rattle.std.specs.Option.{option_map_or}
-use Rattle.type_taxonomy.specs.Above.{port_passes}
+use Rattle.type_taxonomy.specs.steps.Above.{port_passes}
 use Rattle.type_taxonomy.proofs.widening.first_wide_port.Given as goal
 
 -- the ports so far narrow

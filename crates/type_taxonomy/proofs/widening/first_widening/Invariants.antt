@@ -1,6 +1,6 @@
 use Rattle.std.proofs.Common.{ℕ, ◌<◌}
 use Rattle.prod_model.specs.declared.model.TypeDecl.{TypeDecl}
-use Rattle.type_taxonomy.specs.Built.{NarrowsAll}
+use Rattle.type_taxonomy.specs.steps.Built.{NarrowsAll}
 use Rattle.type_taxonomy.specs.Faults.{Has}
 use Rattle.type_taxonomy.proofs.widening.first_widening.Given as goal
 

@@ -1,5 +1,5 @@
 use Rattle.std.proofs.Common.{refl, sym, subst, Some, None, MatchOption}
-use Rattle.type_taxonomy.specs.Built.{NarrowsAll, IsWideningOf, of_attribute, of_port}
+use Rattle.type_taxonomy.specs.steps.Built.{NarrowsAll, IsWideningOf, of_attribute, of_port}
 use Rattle.type_taxonomy.proofs.Widenings.{attributes_told, ports_told}
 use Rattle.type_taxonomy.proofs.widening.widening_of.Goals as goal
 

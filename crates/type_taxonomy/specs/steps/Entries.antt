@@ -21,7 +21,9 @@ module _ {D : Type 0} (declared : TypeDecl → List D) (name_of : D → List ℕ
 
   -- none of these types declares the name
   abbrev pub is_new_among : List TypeDecl → List ℕ → D → Bool
-  is_new_among types ancestors d = not (list_any (λ e. same_text (name_of d) (name_of e)) (flat_map (declarations_of declared name_of types) ancestors))
+  is_new_among types ancestors d =
+      not (list_any (λ e. same_text (name_of d) (name_of e))
+      (flat_map (declarations_of declared name_of types) ancestors))
 
   -- the declarations that are new, under their ids from this one on
   abbrev pub numbered : ℕ → List D → List (Named (ℕ × D))
@@ -29,7 +31,8 @@ module _ {D : Type 0} (declared : TypeDecl → List D) (name_of : D → List ℕ
 
   -- what is new in a type
   abbrev pub new_of : List TypeDecl → ℕ → List (Named (ℕ × D))
-  new_of types t = numbered (first_id declared name_of types t) (new_declarations declared name_of types t)
+  new_of types t =
+      numbered (first_id declared name_of types t) (new_declarations declared name_of types t)
 
   -- what is inherited, narrowed where one of the declarations has the name
   abbrev pub narrowed_by : List D → List (Named (ℕ × D)) → List (Named (ℕ × D))

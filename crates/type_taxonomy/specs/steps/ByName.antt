@@ -13,4 +13,5 @@ found m name = option_map (λ f. (f.height, f.declared.now)) (get_by (λ k. same
 
 -- the first of these declarations that has the name, with this height
 abbrev pub found_at : {D : Type 0} → (D → List ℕ) → ℕ → List D → List ℕ → Option (ℕ × D)
-found_at name_of height ds name = option_map (λ d. (height, d)) (find (λ d. same_text (name_of d) name) ds)
+found_at name_of height ds name =
+    option_map (λ d. (height, d)) (find (λ d. same_text (name_of d) name) ds)

@@ -6,11 +6,11 @@ use Rattle.prod_model.specs.declared.model.TypeDecl.{TypeDecl}
 use Rattle.type_taxonomy.specs.declared.forest.Forest.{Forest}
 use Rattle.type_taxonomy.specs.declared.fault.TaxFault.{TaxFault}
 use Rattle.type_taxonomy.specs.declared.fault.TaxFault.TheVariants.{Widening}
-use Rattle.type_taxonomy.specs.Entries.{AreLines, AreRows}
+use Rattle.type_taxonomy.specs.steps.Entries.{AreLines, AreRows}
 use Rattle.type_taxonomy.specs.Faults.{Has}
-use Rattle.type_taxonomy.specs.Firsts.{IsFirstFailing}
-use Rattle.type_taxonomy.specs.Nearest.{attribute_narrows_nearest, port_narrows_nearest}
-use Rattle.type_taxonomy.specs.TypeForest.{IsForest}
+use Rattle.type_taxonomy.specs.steps.Firsts.{IsFirstFailing}
+use Rattle.type_taxonomy.specs.steps.NearestTests.{attribute_narrows_nearest, port_narrows_nearest}
+use Rattle.type_taxonomy.specs.steps.TypeForest.{IsForest}
 
 -- the lines and entries are those of the model's types
 pub record IsBuilt (f : Forest) : Type 0 where
@@ -23,7 +23,8 @@ pub record IsBuilt (f : Forest) : Type 0 where
 
 -- the attribute that a type declares at this place narrows that of the nearest ancestor
 abbrev pub attribute_narrows_at : Model → ℕ → TypeDecl → ℕ → Bool
-attribute_narrows_at m t d k = option_map_or (attribute_narrows_nearest m t) (slice_get d.attributes k) true
+attribute_narrows_at m t d k =
+    option_map_or (attribute_narrows_nearest m t) (slice_get d.attributes k) true
 
 -- and the port
 abbrev pub port_narrows_at : Model → ℕ → TypeDecl → ℕ → Bool
@@ -36,8 +37,11 @@ pub record NarrowsAll (m : Model) (t : ℕ) (d : TypeDecl) : Type 0 where
 
 -- the first widening of a type: attributes before ports, and then by place
 pub data IsWideningOf (m : Model) (t : ℕ) (d : TypeDecl) (f : TaxFault) : Type 0 where
-  of_attribute : (k : ℕ) → f ≡ Widening t false k → IsFirstFailing (attribute_narrows_at m t d) (length d.attributes) (Some k) → IsWideningOf m t d f
-  of_port : (k : ℕ) → f ≡ Widening t true k → ((j : ℕ) → j < length d.attributes → IsTrue (attribute_narrows_at m t d j))
+  of_attribute : (k : ℕ) → f ≡ Widening t false k
+      → IsFirstFailing (attribute_narrows_at m t d) (length d.attributes) (Some k)
+      → IsWideningOf m t d f
+  of_port : (k : ℕ) → f ≡ Widening t true k
+      → ((j : ℕ) → j < length d.attributes → IsTrue (attribute_narrows_at m t d j))
       → IsFirstFailing (port_narrows_at m t d) (length d.ports) (Some k) → IsWideningOf m t d f
 
 -- the first widening: the types before narrow all that is above them

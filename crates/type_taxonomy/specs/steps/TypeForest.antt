@@ -3,15 +3,18 @@ use Rattle.std.specs.Prelude.{◌≡◌, ℕ, ◌<◌, ◌≤◌, List, [], leng
 use Rattle.prod_model.specs.declared.model.TypeDecl.{TypeDecl}
 use Rattle.prod_model.specs.Forest.{line}
 use Rattle.type_taxonomy.specs.declared.entry.Entry.{Entry}
-use Rattle.type_taxonomy.specs.Entries.{named, placed_of}
+use Rattle.type_taxonomy.specs.steps.Entries.{named, placed_of}
 
 pub record IsForest (types : List TypeDecl) : Type 0 where
   -- each parent is a type
-  pub known : (t p : ℕ) (d : TypeDecl) → slice_get types t ≡ Some d → d.parent ≡ Some p → p < length types
+  pub known : (t p : ℕ) (d : TypeDecl) → slice_get types t ≡ Some d → d.parent ≡ Some p
+      → p < length types
   -- no line has more members than there are types
   pub ends : (t : ℕ) → t < length types → length (line types t) ≤ length types
 
 -- There is a row for each type, and those of these types are done.
-pub record HasRows {D : Type 0} (declared : TypeDecl → List D) (name_of : D → List ℕ) (types : List TypeDecl) (IsDone : ℕ → Type 0) (rows : List (List (Entry D))) : Type 0 where
+pub record HasRows {D : Type 0} (declared : TypeDecl → List D) (name_of : D → List ℕ)
+    (types : List TypeDecl) (IsDone : ℕ → Type 0) (rows : List (List (Entry D))) : Type 0 where
   pub each : length rows ≡ length types
-  pub done : (t : ℕ) → t < length types → IsDone t → map (named name_of) (slice_index_or rows t []) ≡ placed_of declared name_of types t
+  pub done : (t : ℕ) → t < length types → IsDone t
+      → map (named name_of) (slice_index_or rows t []) ≡ placed_of declared name_of types t

@@ -1,0 +1,7 @@
+pub mod Above
+pub mod Built
+pub mod ByName
+pub mod Entries
+pub mod Firsts
+pub mod NearestTests
+pub mod TypeForest
