@@ -11,7 +11,7 @@ use Rattle.config_value.specs.declared.configuration.Instance.{Instance}
 use Rattle.config_value.specs.Shaped.{has_value, has_leaf_types}
 use Rattle.config_value.specs.ShapedSentences.{IsBuilt}
 use Rattle.config_value.specs.Spelled.{is_spelled}
-use Rattle.config_value.proofs.Places.{list_all_at}
+use Rattle.base_laws.proofs.Tests.{list_all_at}
 use Rattle.config_value.proofs.ShapedParts.{is_built, is_built_at}
 use Rattle.answer_check.specs.Breaks.{too_many, other_root, bad_value, no_instance, off_target, bad_number, shared_part, misnumbered, bad_count, false_rule}
 use Rattle.answer_check.specs.Finds.{BreaksAt}

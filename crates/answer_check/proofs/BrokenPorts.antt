@@ -9,7 +9,7 @@ use Rattle.prod_model.specs.Taxonomy.{ports_at}
 use Rattle.prod_model.specs.Valid.{IsValid}
 use Rattle.config_value.specs.declared.configuration.Instance.{Instance}
 use Rattle.config_value.specs.Value.{under}
-use Rattle.config_value.proofs.Places.{list_any_at, list_any_from, option_map_or_at, option_map_or_from}
+use Rattle.base_laws.proofs.Tests.{list_any_at, list_any_from, option_map_or_at, option_map_or_from}
 use Rattle.answer_check.specs.declared.links.PortTest.{PortTest}
 use Rattle.answer_check.specs.declared.links.PortTest.TheVariants.{Leads, OnTarget, Number}
 use Rattle.answer_check.specs.Breaks.{Breaks, HasPort, too_many, other_root, bad_value, no_instance, off_target, bad_number, shared_part, misnumbered, bad_count, false_rule}
@@ -17,8 +17,8 @@ use Rattle.answer_check.specs.Finds.{BreaksAt, FindsItem}
 use Rattle.answer_check.specs.PortTests.{code_of, is_off, breaks_port}
 use Rattle.answer_check.proofs.Items.{Passes, finds_position, finds_same}
 use Rattle.answer_check.proofs.FewItems.{few_ports}
-use Rattle.prod_model.proofs.ListLaws.{slice_get_zip}
-use Rattle.answer_check.proofs.ZippedLists.{zip_first, zip_second}
+use Rattle.base_laws.proofs.Lists.{slice_get_zip}
+use Rattle.base_laws.proofs.Lists.{zip_first, zip_second}
 
 not_true : (b : Bool) → not b ≡ true → b ≡ false
 not_true b h = grind arith

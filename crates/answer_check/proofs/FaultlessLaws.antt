@@ -19,7 +19,7 @@ use Rattle.prod_model.specs.Valid.{IsValid, IsValidOrder, has_faultless_rules}
 use Rattle.config_value.specs.declared.configuration.Instance.{Instance}
 use Rattle.config_value.specs.Shaped.{is_shaped}
 use Rattle.config_value.specs.Value.{under, is_under, is_true_at}
-use Rattle.config_value.proofs.Places.{list_all_at}
+use Rattle.base_laws.proofs.Tests.{list_all_at}
 use Rattle.config_value.proofs.ShapedSentences.{shaped_sentences}
 use Rattle.answer_check.specs.Breaks.{false_rule}
 use Rattle.answer_check.specs.Finds.{BreaksAt}

@@ -9,7 +9,9 @@ use Rattle.prod_model.specs.Taxonomy.{attributes_at, ports_at}
 use Rattle.prod_model.specs.Valid.{IsValid, has_room, has_room_at, has_short_lists, has_numbers_in_limits}
 use Rattle.config_value.specs.declared.configuration.Instance.{Instance}
 use Rattle.config_value.specs.Spelled.{is_spelled}
-use Rattle.config_value.proofs.Places.{list_all_at, slice_get_range_with_len, is_between_at}
+use Rattle.base_laws.proofs.Ranges.{slice_get_range_with_len}
+use Rattle.base_laws.proofs.Tests.{list_all_at}
+use Rattle.config_value.proofs.Places.{is_between_at}
 use Rattle.config_value.specs.Shaped.{is_shaped}
 use Rattle.config_value.specs.Value.{under}
 use Rattle.std.proofs.lemmas.List.Sums.{count_by-le-length}

@@ -14,8 +14,9 @@ use Rattle.prod_model.specs.Taxonomy.{attribute_of, port_of, attributes_at, port
 use Rattle.prod_model.specs.Valid.{IsDeclared}
 use Rattle.config_value.specs.declared.configuration.Instance.{Instance}
 use Rattle.config_value.specs.Value.{value_of, links_of, value_at_instance, links_at_instance}
-use Rattle.config_value.specs.ShapedSentences.{IsAt, IsBetween, IsInstanceUnder, IsValueOf, HasShape}
-use Rattle.answer_check.proofs.ListLaws.{IsFirstAt, find_place, position_is}
+use Rattle.base_laws.specs.Places.{IsAt}
+use Rattle.config_value.specs.ShapedSentences.{IsBetween, IsInstanceUnder, IsValueOf, HasShape}
+use Rattle.base_laws.proofs.Places.{IsFirstAt, find_place, position_is}
 use Rattle.answer_check.proofs.NarrowingLaws.{IsRangeWithin, IsAttributeWithin, IsPortWithin, attributes_narrow, ports_narrow}
 
 -- where the domain is a range, the value is in it

@@ -6,7 +6,7 @@ use Rattle.std.proofs.lemmas.Int.{ints}
 use Rattle.std.proofs.lemmas.Option.{slice_get-get_or}
 use Rattle.std.proofs.lemmas.List.Folds.{fold-map}
 use Rattle.config_value.specs.Value.{sum_of}
-use Rattle.answer_check.proofs.Counted.{fold_next}
+use Rattle.base_laws.proofs.Steps.{fold_next}
 
 module _ {X : Type 0} (f : X → ℤ) where
   sum_fold : (xs : List X) → sum_of (map f xs) ≡ fold (λ b x. b +ℤ f x) (pos 0) xs

@@ -1,19 +1,15 @@
 pub mod NoTypes
 pub mod Items
 pub mod FewItems
-pub mod ZippedLists
 pub mod BrokenPorts
 pub mod BadValues
 pub mod OwnWords
-pub mod Counted
 pub mod BreakParts
 pub mod Singles
-pub mod Masks64
 pub mod SeenParts
 pub mod SharedParts
 pub mod LinkPushed
 pub mod TurnMasks
-mod ListLaws
 pub mod LineLaws
 mod EntryLaws
 pub mod NarrowingLaws

@@ -11,7 +11,7 @@ use Rattle.config_value.specs.declared.configuration.Instance.{Instance}
 use Rattle.config_value.specs.Spelled.{is_spelled, is_spelled_value, is_spelled_links}
 use Rattle.config_value.specs.Shaped.{ascends}
 use Rattle.config_value.specs.Value.{links_of, links_at_instance}
-use Rattle.config_value.proofs.Places.{list_all_at}
+use Rattle.base_laws.proofs.Tests.{list_all_at}
 use lib.Pointwise.{pointwise}
 use Rattle.answer_check.specs.declared.instance_set.InstanceSet.{InstanceSet}
 use Rattle.answer_check.specs.InstanceSets.{is_member, with_instance}

@@ -9,7 +9,7 @@ use Rattle.std.proofs.lemmas.Bool.Decides.{nat_tests}
 use Rattle.answer_check.specs.declared.instance_set.InstanceSet.{InstanceSet}
 use Rattle.answer_check.specs.Finds.{FindsItem}
 use Rattle.answer_check.specs.InstanceSets.{is_member, with_instance}
-use Rattle.answer_check.proofs.Masks64.{bit_at_with}
+use Rattle.base_laws.proofs.Masks64.{bit_at_with}
 
 -- a bit that is 1
 abbrev has : ℕ → ℕ → Bool

@@ -21,12 +21,12 @@ use Rattle.prod_model.specs.Names.{same_text, is_distinct}
 use Rattle.prod_model.specs.Forest.{is_a}
 use Rattle.prod_model.specs.Taxonomy.{Named, declarations_of, kept_entry, entries_of, first_id, new_declarations, new_entries, attributes_of, ports_of, attributes_at, ports_at, made_attribute, made_port, words_of}
 use Rattle.prod_model.specs.Valid.{IsDeclared, inherited, has_distinct_names, has_narrowings, attribute_narrows, port_narrows, narrows_domain, same_kind}
-use Rattle.config_value.specs.ShapedSentences.{IsAt}
-use Rattle.config_value.proofs.Places.{list_all_at, list_any_from}
+use Rattle.base_laws.specs.Places.{IsAt}
+use Rattle.base_laws.proofs.Tests.{list_all_at, list_any_from}
 use Rattle.prod_model.proofs.NameLaws.{same_text_refl}
 use Rattle.prod_model.proofs.ForestLines.{HasNoCycle, HasParent, no_cycle}
 use Rattle.answer_check.proofs.LineLaws.{along_lines, is_a_cases, is_a_trans}
-use Rattle.answer_check.proofs.ListLaws.{HasEach, find_at, map_at, at_map, at_front}
+use Rattle.base_laws.proofs.Places.{HasEach, find_at, map_at, at_map, at_front}
 use Rattle.answer_check.proofs.EntryLaws.{same_text_same, entries_parent, names_distinct}
 
 -- ---- what a narrowing is

@@ -15,7 +15,9 @@ use Rattle.config_value.specs.Shaped.{is_shaped, has_root, has_size, has_value, 
 use Rattle.config_value.specs.Numbered.{is_in_turn, is_numbered}
 use Rattle.config_value.specs.Satisfies.{follows_rules, satisfies}
 use Rattle.config_value.specs.Spelled.{is_spelled, is_spelled_value, is_spelled_links}
-use Rattle.config_value.proofs.Places.{list_all_at, list_all_from, pointwise_at, pointwise_from, option_map_or_at, option_map_or_from, slice_get_range_with_len, range_with_len_lt, is_between_at, is_between_from}
+use Rattle.base_laws.proofs.Ranges.{slice_get_range_with_len, range_with_len_lt}
+use Rattle.base_laws.proofs.Tests.{list_all_at, list_all_from, pointwise_at, pointwise_from, option_map_or_at, option_map_or_from}
+use Rattle.config_value.proofs.Places.{is_between_at, is_between_from}
 use Rattle.config_value.proofs.ShapedParts.{PassesEach, passes_each, is_shaped_from}
 use Rattle.answer_check.specs.declared.verdict.Verdict.{Verdict}
 use Rattle.answer_check.specs.declared.verdict.Verdict.TheVariants.{Satisfied, Broken}

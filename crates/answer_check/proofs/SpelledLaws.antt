@@ -24,12 +24,14 @@ use Rattle.config_value.specs.declared.configuration.Instance.{Instance}
 use Rattle.config_value.specs.Value.{under, is_under}
 use Rattle.config_value.specs.Shaped.{is_in, has_value, has_links_of, has_values, has_links}
 use Rattle.config_value.specs.Spelled.{is_spelled, is_spelled_value, is_spelled_links, is_word_place}
-use Rattle.config_value.specs.ShapedSentences.{IsAt, IsBuilt}
+use Rattle.base_laws.specs.Places.{IsAt}
+use Rattle.config_value.specs.ShapedSentences.{IsBuilt}
 use Rattle.config_value.specs.BoundsHold.{ShapedIsSpelled}
+use Rattle.base_laws.proofs.Tests.{list_all_at, list_all_from, option_map_or_at, pointwise_at, pointwise_from}
 use Rattle.config_value.proofs.Places
 use Rattle.config_value.proofs.ShapedParts.{passes_each}
 use Rattle.config_value.proofs.ShapedSentences.{shaped_sentences}
-use Rattle.answer_check.proofs.ListLaws.{find_at, map_at, filter_at}
+use Rattle.base_laws.proofs.Places.{find_at, map_at, filter_at}
 
 -- ---- what holds of each declaration of all types holds of each entry
 
@@ -43,7 +45,7 @@ module _ {D A : Type 0} (declared : TypeDecl → List D) (name_of : D → List �
     where
       by : (o : Option TypeDecl) → slice_get types t ≡ o → (k : ℕ) (d : D) → IsAt (option_map_or declared o []) k d → IsTrue (p d)
       by None is k d at = absurd (none-some d at)
-      by (Some u) is k d at = Places.list_all_at p (declared u) (Places.list_all_at (λ t. list_all p (declared t)) types each t u is) k d at
+      by (Some u) is k d at = list_all_at p (declared u) (list_all_at (λ t. list_all p (declared t)) types each t u is) k d at
 
   -- what an entry names passes
   abbrev passes : Named A → Bool
@@ -98,10 +100,10 @@ ends_at m is t k a at =
     let limits : IsTrue (list_all test m.types) =
     (and_parts (is_between 1 Limits.most_instances m.instances && list_all (λ b. is_pair b.low b.high) m.bounds) (list_all test m.types) is.formed.numbers_in_limits).1 in
     let each : IsTrue (list_all (λ d. list_all (λ a. has_ends a.domain) d.attributes) m.types) =
-    Places.list_all_from (λ d. list_all (λ a. has_ends a.domain) d.attributes) m.types (λ k d at. (and_parts _ _ (Places.list_all_at test m.types limits k d at)).0) in
+    list_all_from (λ d. list_all (λ a. has_ends a.domain) d.attributes) m.types (λ k d at. (and_parts _ _ (list_all_at test m.types limits k d at)).0) in
     let all = entries_pass (λ d. d.attributes) (λ d. d.name) made_attribute (λ d a. made_attribute a.id d) m.types (λ d. has_ends d.domain) (λ a. has_ends a.domain)
     (λ id d ends. ends) (λ d a ends. ends) each t in
-    subst (λ a. IsTrue (has_ends a.domain)) entry.2 (Places.list_all_at (λ e. has_ends e.what.domain) (attributes_of m.types t) all k entry.0 entry.1)
+    subst (λ a. IsTrue (has_ends a.domain)) entry.2 (list_all_at (λ e. has_ends e.what.domain) (attributes_of m.types t) all k entry.0 entry.1)
 
 -- no more instances are in a model than a configuration may have
 few_instances : (m : Model) → IsDeclared m → m.instances ≤ Limits.most_instances
@@ -126,7 +128,7 @@ value_spelled m a v ends value = by a.domain v ends value
         let inside = and_parts _ _ value in
         and_from _ _ (le_trans (neg_ℤ Limits.farthest_end) low v (and_parts _ _ both.0).0 inside.0) (le_trans v high Limits.farthest_end inside.1 (and_parts _ _ both.1).1)
     by (Words words) (pos n) ends value =
-        let word = Places.option_map_or_at (λ w. list_any (same_text w) words) (slice_get (first_words m a.id) n) value in
+        let word = option_map_or_at (λ w. list_any (same_text w) words) (slice_get (first_words m a.id) n) value in
         lt-ltb n (length (first_words m a.id)) (slice_get_within (first_words m a.id) n word.0 word.1)
     by (Words words) (negsuc n) ends value = absurd cc
 
@@ -137,8 +139,8 @@ links_spelled : (m : Model) (c : List Instance) (p : PortAt) (links : List ℕ) 
     → IsTrue (has_links_of m c p links) → IsTrue (is_spelled_links links)
 links_spelled m c p links few held =
     let both = and_parts _ _ (and_parts _ _ held).0 in
-    and_from _ _ both.0 (Places.list_all_from (λ j. nat_lt j Limits.most_instances) links (λ k j at.
-    let instance = Places.option_map_or_at (under m p.target) (slice_get c j) (Places.list_all_at (is_under m c p.target) links both.1 k j at) in
+    and_from _ _ both.0 (list_all_from (λ j. nat_lt j Limits.most_instances) links (λ k j at.
+    let instance = option_map_or_at (under m p.target) (slice_get c j) (list_all_at (is_under m c p.target) links both.1 k j at) in
     lt-ltb j Limits.most_instances (omega (arith, slice_get_within c j instance.0 instance.1))))
 
 -- ---- instances
@@ -147,13 +149,13 @@ links_spelled m c p links few held =
 values_pass : (m : Model) (c : List Instance) → IsTrue (has_values m c) → (i : ℕ) (x : Instance) → IsAt c i x
     → IsTrue (pointwise (has_value m) (attributes_at m x.kind) x.values)
 unfolding has_values
-values_pass m c h = Places.list_all_at (λ x. pointwise (has_value m) (attributes_at m x.kind) x.values) c h
+values_pass m c h = list_all_at (λ x. pointwise (has_value m) (attributes_at m x.kind) x.values) c h
 
 -- what `has_links` says of an instance
 links_pass : (m : Model) (c : List Instance) → IsTrue (has_links m c) → (i : ℕ) (x : Instance) → IsAt c i x
     → IsTrue (pointwise (has_links_of m c) (ports_at m x.kind) x.links)
 unfolding has_links
-links_pass m c h = Places.list_all_at (λ x. pointwise (has_links_of m c) (ports_at m x.kind) x.links) c h
+links_pass m c h = list_all_at (λ x. pointwise (has_links_of m c) (ports_at m x.kind) x.links) c h
 
 -- an instance's values and links can be spelled
 instance_spelled : (m : Model) (c : List Instance) → IsDeclared m → (x : Instance) → length c ≤ Limits.most_instances → IsBuilt m x
@@ -161,11 +163,11 @@ instance_spelled : (m : Model) (c : List Instance) → IsDeclared m → (x : Ins
     → IsTrue (pointwise (is_spelled_value m) (attributes_at m x.kind) x.values && list_all is_spelled_links x.links)
 instance_spelled m c is x few built values links =
     and_from _ _
-    (Places.pointwise_from (is_spelled_value m) (attributes_at m x.kind) x.values (sym built.each_attribute) (λ k a v there stands.
-    value_spelled m a v (ends_at m is x.kind k a there) (Places.pointwise_at (has_value m) (attributes_at m x.kind) x.values values k a v there stands)))
-    (Places.list_all_from is_spelled_links x.links (λ k ls stands.
+    (pointwise_from (is_spelled_value m) (attributes_at m x.kind) x.values (sym built.each_attribute) (λ k a v there stands.
+    value_spelled m a v (ends_at m is x.kind k a there) (pointwise_at (has_value m) (attributes_at m x.kind) x.values values k a v there stands)))
+    (list_all_from is_spelled_links x.links (λ k ls stands.
     elim (slice_get_cases (ports_at m x.kind) k).1 [
-      | inl port ↦ links_spelled m c port.0 ls few (Places.pointwise_at (has_links_of m c) (ports_at m x.kind) x.links links k port.0 ls port.2 stands)
+      | inl port ↦ links_spelled m c port.0 ls few (pointwise_at (has_links_of m c) (ports_at m x.kind) x.links links k port.0 ls port.2 stands)
       | inr past ↦ absurd (omega (arith, slice_get_within x.links k ls stands, built.each_port, past.0))
     ]))
 
@@ -177,6 +179,6 @@ shaped_is_spelled m c is shaped =
     let s = (shaped_sentences m c).0 shaped in
     let few : length c ≤ Limits.most_instances = omega (arith, s.size.1, few_instances m is) in
     let each : IsTrue (list_all (λ x. pointwise (is_spelled_value m) (attributes_at m x.kind) x.values && list_all is_spelled_links x.links) c) =
-    Places.list_all_from (λ x. pointwise (is_spelled_value m) (attributes_at m x.kind) x.values && list_all is_spelled_links x.links) c (λ i x at.
+    list_all_from (λ x. pointwise (is_spelled_value m) (attributes_at m x.kind) x.values && list_all is_spelled_links x.links) c (λ i x at.
     instance_spelled m c is x few (s.built i x at) (values_pass m c tests.values i x at) (links_pass m c tests.links i x at)) in
     and_from _ _ (and_from _ _ (Places.is_between_from 1 Limits.most_instances (length c) (s.size.0, few)) tests.leaf_types) each

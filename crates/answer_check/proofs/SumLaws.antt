@@ -7,7 +7,7 @@ use Rattle.std.proofs.Math.IntN.{suc_ℤ-*ℤ, pred_ℤ-*ℤ, pos-*ℤ-pos, pos-
 use Rattle.std.proofs.Math.Nat.{mul-le-mul_right}
 use Rattle.std.proofs.lemmas.Int.{ints, clamps}
 use Rattle.config_value.specs.Value.{sum_of}
-use Rattle.config_value.specs.ShapedSentences.{IsAt}
+use Rattle.base_laws.specs.Places.{IsAt}
 
 -- the number is the low one, the high one or between them
 abbrev pub IsBetweenNumbers : ℤ → ℤ → ℤ → Type 0

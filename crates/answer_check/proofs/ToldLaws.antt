@@ -15,7 +15,7 @@ use Rattle.prod_model.specs.ExprBounds.{bounded, sum_of_some, sum_of_all, differ
 use Rattle.config_value.specs.declared.found.Found.{Found}
 use Rattle.config_value.specs.declared.found.Found.TheVariants as found
 use Rattle.config_value.specs.Value.{as_number, sum_of}
-use Rattle.config_value.specs.ShapedSentences.{IsAt}
+use Rattle.base_laws.specs.Places.{IsAt}
 use Rattle.config_value.specs.BoundsHold.{IsWithinBounds}
 use Rattle.answer_check.proofs.HeldLaws.{IsInRange}
 use Rattle.answer_check.proofs.SumLaws.{IsBetweenNumbers, sum_of_some_between, multiple_between, difference_between}

@@ -12,7 +12,8 @@ use Rattle.prod_model.specs.declared.expr.Expr.{Expr}
 use Rattle.config_value.specs.declared.configuration.Instance.{Instance}
 use Rattle.config_value.specs.Shaped.{instance_numbers}
 use Rattle.config_value.specs.Value.{is_true_at, links_at_instance}
-use Rattle.config_value.proofs.Places.{list_any_at, list_any_from, slice_get_range_with_len}
+use Rattle.base_laws.proofs.Ranges.{slice_get_range_with_len}
+use Rattle.base_laws.proofs.Tests.{list_any_at, list_any_from}
 use Rattle.answer_check.specs.declared.instance_set.InstanceSet.{InstanceSet}
 use Rattle.answer_check.specs.Finds.{FindsItem}
 use Rattle.answer_check.specs.Evaluable.{HasBoundsAtEach}

@@ -4,7 +4,7 @@ ghost use Rattle.std.specs.Int.{bit_at};
 ghost use Rattle.answer_check.specs.Finds.{FindsItem};
 
 /// The mask of one instance.
-#[tactic(auto, using(crate::proofs::Masks64::one_bit))]
+#[tactic(auto, using(base_laws::proofs::Masks64::one_bit))]
 pub(crate) fn bit(j: u32) -> u64
     requires { j < 64 }
     ensures { result ≡ 2 ^ j }

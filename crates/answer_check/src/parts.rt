@@ -86,7 +86,7 @@ pub(crate) fn shared_part(problem: &Problem, c: &Configuration) -> Option<Place>
     None
 }
 
-#[tactic(auto, using(crate::proofs::Counted::fold_next))]
+#[tactic(auto, using(base_laws::proofs::Steps::fold_next))]
 fn seen_in(problem: &Problem, c: &Configuration) -> Seen
     requires { length c.now ≤ 64 }
     ensures { result ≡ seen_in_all problem.now c.now }

@@ -11,7 +11,7 @@ use Rattle.prod_model.specs.declared.model.TypeDecl.{TypeDecl}
 use Rattle.prod_model.specs.Names.{same_text}
 use Rattle.prod_model.specs.Forest.{line}
 use Rattle.prod_model.specs.Taxonomy.{Named, declarations_of, new_declarations, all_new_declarations, first_id, new_entries, kept_entry, extended_entries, entries_of}
-use Rattle.prod_model.proofs.ListLaws.{slice_get_middle}
+use Rattle.base_laws.proofs.Places.{slice_get_middle}
 use Rattle.prod_model.proofs.ForestLines.{line_within_types}
 use Rattle.prod_model.proofs.EntryLaws.{all_new_split}
 

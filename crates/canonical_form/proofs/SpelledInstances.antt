@@ -11,7 +11,7 @@ use Rattle.config_value.specs.declared.configuration.Instance.{Instance}
 use Rattle.config_value.specs.Shaped.{has_leaf_types}
 use Rattle.config_value.specs.Spelled.{is_spelled_value, is_spelled_links, is_spelled}
 use Rattle.canonical_form.specs.Written.{IsWritten}
-use Rattle.prod_model.proofs.ListLaws.{list_all_at_place}
+use Rattle.base_laws.proofs.Tests.{list_all_at}
 
 -- there are at most 64 instances
 pub few_instances : (m : Model) (c : List Instance) → is_spelled m c ≡ true → length c ≤ 64
@@ -32,13 +32,13 @@ shape_at : (m : Model) (c : List Instance) (i : ℕ) (x : Instance) → has_leaf
     → (x.kind < length m.types) × (length x.links ≡ length (ports_at m x.kind))
 unfolding has_leaf_types is_leaf
 shape_at m c i x leaves at =
-    let here = list_all_at_place (λ y. is_leaf m y.kind && (length y.values == length (attributes_at m y.kind)) && (length y.links == length (ports_at m y.kind))) c i x leaves at in
+    let here = list_all_at (λ y. is_leaf m y.kind && (length y.values == length (attributes_at m y.kind)) && (length y.links == length (ports_at m y.kind))) c leaves i x at in
     (grind (arith, nat_tests), grind (arith, nat_tests))
 
 pub written_at : (m : Model) (c : List Instance) (i : ℕ) (x : Instance) → is_spelled m c ≡ true → slice_get c i ≡ Some x → IsWritten m x
 written_at m c i x spelled at =
     let shape = shape_at m c i x (leaf_types m c spelled) at in
-    let parts = list_all_at_place (λ y. pointwise (is_spelled_value m) (attributes_at m y.kind) y.values && list_all is_spelled_links y.links) c i x (spelled_parts m c spelled) at in
+    let parts = list_all_at (λ y. pointwise (is_spelled_value m) (attributes_at m y.kind) y.values && list_all is_spelled_links y.links) c (spelled_parts m c spelled) i x at in
     record { typed = shape.0; valued = grind (arith); linked = shape.1 }
 
 -- an instance stands beside its number

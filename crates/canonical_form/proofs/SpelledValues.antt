@@ -23,7 +23,7 @@ use Rattle.prod_model.specs.Taxonomy.{Named, declarations_of, new_declarations, 
 use Rattle.prod_model.specs.Valid.{IsValid, has_narrowings, attribute_narrows, port_narrows, narrows_domain, inherited, has_few_words}
 use Rattle.config_value.specs.Spelled.{is_spelled_value, is_word_place}
 use Rattle.canonical_form.specs.FirstDeclared.{with_new, first_declarations}
-use Rattle.prod_model.proofs.ListLaws.{list_all_at_place, list_all_from_each, list_any_map}
+use Rattle.base_laws.proofs.Tests.{list_all_at, list_all_from, list_any_map}
 use Rattle.prod_model.proofs.NameLaws.{same_text_refl}
 use Rattle.prod_model.proofs.ForestLines.{no_cycle, line_stays, IsLine, line_IsLine, line_within_types}
 use Rattle.canonical_form.proofs.Places.{places_of_type}
@@ -181,14 +181,14 @@ module _ (m : Model) (valid : IsValid m) where
   inherited_kept d p parent narrows kept =
       let es = attributes_of m.types p in
       all_map (is_kept all_firsts) (kept_by d.attributes) es
-      ∙ list_all_from_each (λ e. is_kept all_firsts (kept_by d.attributes e)) es
-      (λ k e at. one_kept d p e (find (λ a. same_text a.name e.name) d.attributes) parent (find_named es k e (names_distinct m p valid) at) refl narrows (list_all_at_place (is_kept all_firsts) es k e kept at))
+      ∙ list_all_from (λ e. is_kept all_firsts (kept_by d.attributes e)) es
+      (λ k e at. one_kept d p e (find (λ a. same_text a.name e.name) d.attributes) parent (find_named es k e (names_distinct m p valid) at) refl narrows (list_all_at (is_kept all_firsts) es kept k e at))
 
   narrows_at : (u : ℕ) (d : TypeDecl) → slice_get m.types u ≡ Some d → list_all (attribute_narrows m d) d.attributes ≡ true
   unfolding has_narrowings
   narrows_at u d at =
       front_of _ (list_all (port_narrows m d) d.ports)
-      (list_all_at_place (λ t. list_all (attribute_narrows m t) t.attributes && list_all (port_narrows m t) t.ports) m.types u d valid.declared.taxonomy.narrowings at)
+      (list_all_at (λ t. list_all (attribute_narrows m t) t.attributes && list_all (port_narrows m t) t.ports) m.types valid.declared.taxonomy.narrowings u d at)
 
   new_of_type : (u : ℕ) → u < length m.types → list_all (is_kept all_firsts) (new_entries (λ d. d.attributes) (λ d. d.name) made_attribute (λ d a. made_attribute a.id d)
       (first_id (λ d. d.attributes) (λ d. d.name) m.types u) (new_declarations (λ d. d.attributes) (λ d. d.name) m.types u)) ≡ true

@@ -4,7 +4,7 @@ use Rattle.std.specs.Prelude.{slice_get}
 use Rattle.std.specs.List.{flat_map, zip}
 use Rattle.std.proofs.lemmas.List.{length-map}
 use Rattle.std.proofs.lemmas.Option.{slice_get_read, slice_get-get_or}
-use Rattle.prod_model.proofs.ListLaws.{slice_get_zip}
+use Rattle.base_laws.proofs.Lists.{slice_get_zip}
 
 pub slice_get_map_read : {R X : Type 0} (read : R → X) (rs : List R) (k : ℕ) (r : R) → k < length rs → r ≡ get_or rs k r → slice_get (map read rs) k ≡ Some (read r)
 slice_get_map_read read [] k r within at = absurd (omega arith)

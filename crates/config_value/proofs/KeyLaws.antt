@@ -12,7 +12,7 @@ use Rattle.config_value.specs.Shaped.{has_leaf_types}
 use Rattle.config_value.specs.Rank.{key, port_key}
 use Rattle.config_value.specs.Laws.{KeyDetermines}
 use Rattle.config_value.proofs.ShapedParts.{passes_each, is_built_at}
-use Rattle.config_value.proofs.ListLaws.{same_parts, same_counts}
+use Rattle.base_laws.proofs.Lists.{same_parts, same_counts}
 
 -- from as many ports' parts in a row, and what follows them, the links of each port are read back
 same_ports : (ls ks : List (List ℕ)) (r s : List ℤ) → length ls ≡ length ks

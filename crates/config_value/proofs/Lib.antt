@@ -1,5 +1,4 @@
 pub mod ConflictLaws
-pub mod ListLaws
 pub mod ShapedParts
 pub mod KeyLaws
 pub mod RankLaws

@@ -17,6 +17,8 @@ use Rattle.config_value.specs.declared.configuration.Instance.{Instance}
 use Rattle.config_value.specs.Value.{under, is_under}
 use Rattle.config_value.specs.Shaped.{is_in, has_value, has_links_of, has_leaf_types, has_root, has_size, has_values, has_links, has_single_parts, has_counts, instance_numbers}
 use Rattle.config_value.specs.ShapedSentences.{IsInstanceUnder, IsValueOf, AreLinksOf, HasShape, ShapedSentences, parts_into}
+use Rattle.base_laws.proofs.Ranges.{range_with_len_lt, slice_get_range_with_len}
+use Rattle.base_laws.proofs.Tests.{list_all_at, list_all_from, list_any_at, list_any_from, option_map_or_at, option_map_or_from, pointwise_at, pointwise_from}
 use Rattle.config_value.proofs.Places
 use Rattle.config_value.proofs.ShapedParts.{PassesEach, passes_each, is_shaped_from, is_built, is_built_at, is_built_from}
 
@@ -25,12 +27,12 @@ use Rattle.config_value.proofs.ShapedParts.{PassesEach, passes_each, is_shaped_f
 -- where the number passes the test there is an instance under the type
 under_at : (m : Model) (c : List Instance) (t i : ℕ) → IsTrue (is_under m c t i) → IsInstanceUnder m c t i
 under_at m c t i h =
-    let found = Places.option_map_or_at (under m t) (slice_get c i) h in
+    let found = option_map_or_at (under m t) (slice_get c i) h in
     record { instance = found.0; there = found.1; of_type = found.2 }
 
 -- an instance under the type passes the test of its number
 under_from : (m : Model) (c : List Instance) (t i : ℕ) → IsInstanceUnder m c t i → IsTrue (is_under m c t i)
-under_from m c t i u = Places.option_map_or_from (under m t) (slice_get c i) u.instance u.there u.of_type
+under_from m c t i u = option_map_or_from (under m t) (slice_get c i) u.instance u.there u.of_type
 
 -- ---- values
 
@@ -43,8 +45,8 @@ true_from_T false t = absurd t
 is_in_at : (d : Domain) (first : List (List ℕ)) (v : ℤ) → IsTrue (is_in d first v) → IsValueOf d first v
 is_in_at (Range low high) first v h = let both = and_parts _ _ h in (le_z_yes (passes _ both.0), le_z_yes (passes _ both.1))
 is_in_at (Words words) first (pos n) h =
-    let found = Places.option_map_or_at (λ w. list_any (same_text w) words) (slice_get first n) h in
-    let allowed = Places.list_any_at (same_text found.0) words found.2 in
+    let found = option_map_or_at (λ w. list_any (same_text w) words) (slice_get first n) h in
+    let allowed = list_any_at (same_text found.0) words found.2 in
     record {
       place = n;
       value = refl;
@@ -60,8 +62,8 @@ is_in_from : (d : Domain) (first : List (List ℕ)) (v : ℤ) → IsValueOf d fi
 is_in_from (Range low high) first v h = and_from _ _ (true_from_T _ (h.0).le) (true_from_T _ (h.1).le)
 is_in_from (Words words) first v p =
     let same = (bytes_decides p.word p.word).1 refl in
-    let allowed = Places.list_any_from (same_text p.word) words p.place_among p.word p.among same in
-    let found = Places.option_map_or_from (λ w. list_any (same_text w) words) (slice_get first p.place) p.word p.first_declared allowed in
+    let allowed = list_any_from (same_text p.word) words p.place_among p.word p.among same in
+    let found = option_map_or_from (λ w. list_any (same_text w) words) (slice_get first p.place) p.word p.first_declared allowed in
     subst (λ u. IsTrue (is_in (Words words) first u)) (sym p.value) found
 
 -- ---- links
@@ -73,14 +75,14 @@ has_links_of_at m c p links h =
     let first = and_parts _ _ both.0 in
     record {
       ascending = Places.ascends_at links first.0;
-      on_target = λ k i e. under_at m c p.target i (Places.list_all_at (is_under m c p.target) links first.1 k i e);
+      on_target = λ k i e. under_at m c p.target i (list_all_at (is_under m c p.target) links first.1 k i e);
       number = Places.is_between_at p.low p.high (length links) both.1;
     }
 
 -- links of a port pass its test
 has_links_of_from : (m : Model) (c : List Instance) (p : PortAt) (links : List ℕ) → AreLinksOf m c p links → IsTrue (has_links_of m c p links)
 has_links_of_from m c p links l =
-    let target = Places.list_all_from (is_under m c p.target) links (λ k i e. under_from m c p.target i (l.on_target k i e)) in
+    let target = list_all_from (is_under m c p.target) links (λ k i e. under_from m c p.target i (l.on_target k i e)) in
     and_from _ _ (and_from _ _ (Places.ascends_from links l.ascending) target) (Places.is_between_from p.low p.high (length links) l.number)
 
 -- ---- parts
@@ -109,12 +111,12 @@ has_single_part m c j = nat_le (parts_into m c j) (if j == 0 then 0 else 1)
 single_part_at : (m : Model) (c : List Instance) → IsTrue (has_single_parts m c) → (j : ℕ) → j < length c → IsTrue (has_single_part m c j)
 unfolding has_single_parts has_single_part
 single_part_at m c h j within =
-    Places.list_all_at (has_single_part m c) (instance_numbers c) h j j (Places.slice_get_range_with_len 0 (length c) j within ∙ ap Some (zero-add j))
+    list_all_at (has_single_part m c) (instance_numbers c) h j j (slice_get_range_with_len 0 (length c) j within ∙ ap Some (zero-add j))
 
 -- `has_single_parts` says no more than that
 single_parts_from : (m : Model) (c : List Instance) → ((j : ℕ) → j < length c → IsTrue (has_single_part m c j)) → IsTrue (has_single_parts m c)
 unfolding has_single_parts has_single_part
-single_parts_from m c h = Places.list_all_from (has_single_part m c) (instance_numbers c) (λ k j e. h j (rw (← zero-add (length c)) (Places.range_with_len_lt 0 (length c) k j e)))
+single_parts_from m c h = list_all_from (has_single_part m c) (instance_numbers c) (λ k j e. h j (rw (← zero-add (length c)) (range_with_len_lt 0 (length c) k j e)))
 
 -- ---- the whole
 
@@ -126,17 +128,17 @@ has_shape m c p =
     record {
       size = size;
       root = under_at m c m.root 0 p.root;
-      built = λ i x e. is_built_at m x (Places.list_all_at (is_built m) c p.leaf_types i x e);
+      built = λ i x e. is_built_at m x (list_all_at (is_built m) c p.leaf_types i x e);
       values = λ i k x a v e f g. is_in_at a.domain (first_words m a.id) v
-          (Places.pointwise_at (has_value m) (attributes_at m x.kind) x.values
-          (Places.list_all_at (λ x. pointwise (has_value m) (attributes_at m x.kind) x.values) c p.values i x e) k a v f g);
+          (pointwise_at (has_value m) (attributes_at m x.kind) x.values
+          (list_all_at (λ x. pointwise (has_value m) (attributes_at m x.kind) x.values) c p.values i x e) k a v f g);
       links = λ i k x q links e f g. has_links_of_at m c q links
-          (Places.pointwise_at (has_links_of m c) (ports_at m x.kind) x.links
-          (Places.list_all_at (λ x. pointwise (has_links_of m c) (ports_at m x.kind) x.links) c p.links i x e) k q links f g);
+          (pointwise_at (has_links_of m c) (ports_at m x.kind) x.links
+          (list_all_at (λ x. pointwise (has_links_of m c) (ports_at m x.kind) x.links) c p.links i x e) k q links f g);
       parts = λ j within. single_at (parts_into m c j) j (single_part_at m c p.single_parts j within);
       whole = zero_at (parts_into m c 0) (single_part_at m c p.single_parts 0 size.0);
       counts = λ k b e. Places.is_between_at b.low b.high (count_by (under m b.kind) c)
-          (Places.list_all_at (λ b. is_between b.low b.high (count_by (under m b.kind) c)) m.bounds p.counts k b e);
+          (list_all_at (λ b. is_between b.low b.high (count_by (under m b.kind) c)) m.bounds p.counts k b e);
     }
   where
     zero_at : (n : ℕ) → IsTrue (nat_le n 0) → n ≡ 0
@@ -146,18 +148,18 @@ has_shape m c p =
 passes_from : (m : Model) (c : List Instance) → HasShape m c → PassesEach m c
 unfolding has_leaf_types has_root has_size has_values has_links has_counts has_single_part
 passes_from m c s = record {
-  leaf_types = Places.list_all_from (is_built m) c (λ i x e. is_built_from m x (s.built i x e));
+  leaf_types = list_all_from (is_built m) c (λ i x e. is_built_from m x (s.built i x e));
   root = under_from m c m.root 0 s.root;
   size = Places.is_between_from 1 m.instances (length c) s.size;
-  values = Places.list_all_from (λ x. pointwise (has_value m) (attributes_at m x.kind) x.values) c (λ i x e.
-      Places.pointwise_from (has_value m) (attributes_at m x.kind) x.values (sym (s.built i x e).each_attribute) (λ k a v f g.
+  values = list_all_from (λ x. pointwise (has_value m) (attributes_at m x.kind) x.values) c (λ i x e.
+      pointwise_from (has_value m) (attributes_at m x.kind) x.values (sym (s.built i x e).each_attribute) (λ k a v f g.
       is_in_from a.domain (first_words m a.id) v (s.values i k x a v e f g)));
-  links = Places.list_all_from (λ x. pointwise (has_links_of m c) (ports_at m x.kind) x.links) c (λ i x e.
-      Places.pointwise_from (has_links_of m c) (ports_at m x.kind) x.links (sym (s.built i x e).each_port) (λ k q links f g.
+  links = list_all_from (λ x. pointwise (has_links_of m c) (ports_at m x.kind) x.links) c (λ i x e.
+      pointwise_from (has_links_of m c) (ports_at m x.kind) x.links (sym (s.built i x e).each_port) (λ k q links f g.
       has_links_of_from m c q links (s.links i k x q links e f g)));
   single_parts = single_parts_from m c (λ j within.
       single_from (parts_into m c j) j (s.parts j within) (λ first. ap (parts_into m c) first ∙ s.whole));
-  counts = Places.list_all_from (λ b. is_between b.low b.high (count_by (under m b.kind) c)) m.bounds (λ k b e.
+  counts = list_all_from (λ b. is_between b.low b.high (count_by (under m b.kind) c)) m.bounds (λ k b e.
       Places.is_between_from b.low b.high (count_by (under m b.kind) c) (s.counts k b e));
 }
 

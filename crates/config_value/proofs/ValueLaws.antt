@@ -4,14 +4,14 @@ use Rattle.std.specs.Ordering.{int_eq}
 use Rattle.std.specs.List.{list_any, list_all, filter, count_by}
 use Rattle.std.proofs.Common.{ap, ◌∙◌}
 use Rattle.std.proofs.lemmas.List.Folds.{list_all-map}
-use Rattle.std.proofs.lemmas.Simd.{map_map}
+use Rattle.std.proofs.lemmas.Simd.{map-map}
 use Rattle.prod_model.specs.declared.model.Model.{Model}
 use Rattle.prod_model.specs.declared.expr.Expr.{Expr}
 use Rattle.prod_model.specs.declared.expr.Expr.TheOpen.{Num, Attr, Count, CountOf, Sum, Total, Number, Add, Sub, Times, Cmp, Is, Kind, And, Or, Not, If, All, Any}
 use Rattle.prod_model.specs.declared.expr.Expr.TheViews.{roll-Expr}
 use Rattle.prod_model.specs.declared.expr.Expr.TheFolds.{fold-roll-Expr}
 use Rattle.prod_model.specs.declared.expr.Relation.{Relation}
-use Rattle.prod_model.proofs.ListLaws.{list_any_map}
+use Rattle.base_laws.proofs.Tests.{list_any_map}
 use Rattle.config_value.specs.declared.configuration.Instance.{Instance}
 use Rattle.config_value.specs.declared.found.Found.{Found}
 use Rattle.config_value.specs.declared.found.Found.TheVariants.{Number as number, Truth as truth}
@@ -48,7 +48,7 @@ module _ (m : Model) (c : List Instance) (i : ℕ) where
 
   pub value_at_Add : (es : List Expr) → value_at m c i (roll-Expr (Add es)) ≡ number (sum_of (map (λ e. as_number (value_at m c i e)) es))
   unfolding value_at
-  value_at_Add es = ap (λ (f : ℕ → Found). f i) (fold-roll-Expr (ℕ → Found) (layer_value m c) (Add es)) ∙ simp map_map
+  value_at_Add es = ap (λ (f : ℕ → Found). f i) (fold-roll-Expr (ℕ → Found) (layer_value m c) (Add es)) ∙ simp map-map
 
   pub value_at_Sub : (e f : Expr) → value_at m c i (roll-Expr (Sub e f)) ≡ number (as_number (value_at m c i e) -ℤ as_number (value_at m c i f))
   unfolding value_at

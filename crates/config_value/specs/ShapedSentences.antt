@@ -1,6 +1,7 @@
 -- What makes a configuration of a model shaped, place by place.
 use Rattle.std.specs.Prelude.{◌≡◌, ◌↔◌, ℕ, suc, ◌<◌, ◌≤◌, ◌==◌, ℤ, pos, ◌≤ℤ◌, IsTrue, List, length, slice_get, Some}
 use Rattle.std.specs.List.{count_by}
+use Rattle.base_laws.specs.Places.{IsAt}
 use Rattle.prod_model.specs.declared.model.Model.{Model}
 use Rattle.prod_model.specs.declared.model.Domain.{Domain}
 use Rattle.prod_model.specs.declared.model.Domain.TheVariants.{Range, Words}
@@ -12,10 +13,6 @@ use Rattle.prod_model.specs.Taxonomy.{first_words, attributes_at, ports_at}
 use Rattle.config_value.specs.declared.configuration.Instance.{Instance}
 use Rattle.config_value.specs.Value.{under}
 use Rattle.config_value.specs.Shaped.{is_shaped, part_links}
-
--- the k-th of the list is x, counted from 0
-abbrev pub IsAt : {A : Type 0} → List A → ℕ → A → Type 0
-IsAt xs k x = slice_get xs k ≡ Some x
 
 -- the number is the low one, the high one or between them
 abbrev pub IsBetween : ℕ → ℕ → ℕ → Type 0

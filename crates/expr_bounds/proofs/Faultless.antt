@@ -19,7 +19,7 @@ use Rattle.expr_bounds.specs.declared.kind.Kind.TheVariants.{Deep, UnknownName, 
 use Rattle.expr_bounds.specs.declared.standing.Standing.{Standing}
 use Rattle.expr_bounds.proofs.ArgumentLaws.{nesting_argument, nesting_within, nesting_some}
 use Rattle.expr_bounds.proofs.Elements.{contains_places, contains_whole, contains_unless}
-use Rattle.prod_model.proofs.ListLaws.{list_all_from_each}
+use Rattle.base_laws.proofs.Tests.{list_all_from}
 
 -- ---- without deep parts
 
@@ -58,7 +58,7 @@ bounded_within m (suc n) e t s within at known narrow =
     known (k ∷ []) (own (subst At (sym at) (contains_places (unknown_names m (out-Expr e) t) k among))) in
     let type = type_known m (out-Expr e) t none in
     let all : has_bounded_arguments m e t ≡ true =
-    list_all_from_each (λ arg. option_map_or (λ u. is_some (bounds_at m arg u)) (type_of_arguments m (out-Expr e) (Some t)) false) (argument_list (out-Expr e))
+    list_all_from (λ arg. option_map_or (λ u. is_some (bounds_at m arg u)) (type_of_arguments m (out-Expr e) (Some t)) false) (argument_list (out-Expr e))
     (λ i arg found. ap (λ o. option_map_or (λ u. is_some (bounds_at m arg u)) o false) type.1
     ∙ bounded_within m n arg type.0 (standing_below m e s) (omega (arith, nesting_argument e i arg found)) (ap (type_of_arguments m (out-Expr e)) at ∙ type.1)
     (λ path has. known _ (inner i arg found has)) (λ path has. narrow _ (inner i arg found has))) in

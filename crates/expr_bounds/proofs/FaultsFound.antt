@@ -24,7 +24,7 @@ use Rattle.expr_bounds.proofs.ArgumentLaws.{argument_index, argument_contained}
 use Rattle.expr_bounds.proofs.BoundsLaws.{bounds_at_form}
 use Rattle.expr_bounds.proofs.EndsLaws.{wide_unbounded, wide_arguments}
 use Rattle.expr_bounds.proofs.PartStandings.{levels_after, levels_left, no_levels, length_step, stands}
-use Rattle.prod_model.proofs.ListLaws.{list_all_from_each}
+use Rattle.base_laws.proofs.Tests.{list_all_from}
 
 -- the kind of a fault, and its path
 pub record Found (m : Model) (e : Expr) (t : ℕ) (f : ExprFault) : Type 0 where
@@ -42,7 +42,7 @@ all_of : (m : Model) (part : Expr) (of : ℕ)
     → ((i : ℕ) (arg : Expr) → slice_get (argument_list (out-Expr part)) i ≡ Some arg → option_map_or (λ u. is_some (bounds_at m arg u)) (type_of_arguments m (out-Expr part) (Some of)) false ≡ true)
     → has_bounded_arguments m part of ≡ true
 all_of m part of each =
-    list_all_from_each (λ arg. option_map_or (λ u. is_some (bounds_at m arg u)) (type_of_arguments m (out-Expr part) (Some of)) false) (argument_list (out-Expr part)) each
+    list_all_from (λ arg. option_map_or (λ u. is_some (bounds_at m arg u)) (type_of_arguments m (out-Expr part) (Some of)) false) (argument_list (out-Expr part)) each
 
 pub too_deep : (levels : Option ℕ) → is_too_deep levels ≡ true → levels ≡ Some 0
 too_deep None none = absurd (false≢true none)

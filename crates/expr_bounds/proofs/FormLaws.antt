@@ -9,7 +9,7 @@ use Rattle.prod_model.specs.declared.expr.Expr.TheOpen.{Expr-F, Add, Sub, Times,
 use Rattle.prod_model.specs.declared.expr.Expr.TheViews.{out-Expr, roll-Expr, roll-out-Expr}
 use Rattle.prod_model.specs.declared.expr.Expr.TheFolds.{fold-roll-Expr}
 use Rattle.prod_model.specs.ExprBounds.{has_arguments}
-use Rattle.prod_model.proofs.ListLaws.{list_all_at_place}
+use Rattle.base_laws.proofs.Tests.{list_all_at}
 use Rattle.expr_bounds.specs.Arguments.{argument_list}
 use Rattle.expr_bounds.specs.Forms.{is_form, layer_is_form}
 
@@ -54,4 +54,4 @@ pub few_arguments : (e : Expr) → IsTrue (is_form e) → length (argument_list 
 few_arguments e formed = (formed_arguments e formed).0
 
 pub formed_argument : (e : Expr) (i : ℕ) (arg : Expr) → IsTrue (is_form e) → slice_get (argument_list (out-Expr e)) i ≡ Some arg → IsTrue (is_form arg)
-formed_argument e i arg formed found = list_all_at_place is_form (argument_list (out-Expr e)) i arg (formed_arguments e formed).1 found
+formed_argument e i arg formed found = list_all_at is_form (argument_list (out-Expr e)) (formed_arguments e formed).1 i arg found

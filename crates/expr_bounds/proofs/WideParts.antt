@@ -7,7 +7,7 @@ use Rattle.prod_model.specs.declared.model.Model.{Model}
 use Rattle.prod_model.specs.declared.expr.Expr.{Expr}
 use Rattle.prod_model.specs.declared.expr.Expr.TheViews.{out-Expr}
 use Rattle.prod_model.specs.ExprBounds.{bounds_at}
-use Rattle.prod_model.proofs.ListLaws.{list_all_at_place}
+use Rattle.base_laws.proofs.Tests.{list_all_at}
 use Rattle.expr_bounds.specs.Arguments.{argument_list, first_place, has_right_count}
 use Rattle.expr_bounds.specs.Ends.{is_wide}
 use Rattle.expr_bounds.specs.Faults.{place_unless, same_truth, needs_truths, is_truth_form, wrong_arguments}
@@ -52,7 +52,7 @@ right_argument : (m : Model) (part : Expr) (of : ℕ) → ((k : ℕ) → ¬ Cont
 right_argument m part of right all i arg found =
     let needed = needs_truths (out-Expr part) in
     let place = first_place (out-Expr part) + i in
-    let passes = list_all_at_place (λ x. option_map_or (λ u. is_some (bounds_at m x u)) (type_of_arguments m (out-Expr part) (Some of)) false) (argument_list (out-Expr part)) i arg all found in
+    let passes = list_all_at (λ x. option_map_or (λ u. is_some (bounds_at m x u)) (type_of_arguments m (out-Expr part) (Some of)) false) (argument_list (out-Expr part)) all i arg found in
     let there = passes_there (λ u. is_some (bounds_at m arg u)) (type_of_arguments m (out-Expr part) (Some of)) passes in
     let kind = ap kind_of (bounds_at_form m arg there.0) ∙ (sound_at m arg there.0 there.2).kind in
     let same = true_unless_false (same_truth needed (is_truth_form (out-Expr arg))) (λ differ.

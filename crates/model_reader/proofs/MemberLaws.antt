@@ -5,7 +5,7 @@ use Rattle.std.specs.Borrow.{Bor}
 use Rattle.std.specs.declared.alloc.Global.{Global}
 use Rattle.std.specs.List.{list_all, list_any}
 use Rattle.prod_model.specs.Names.{same_text}
-use Rattle.prod_model.proofs.ListLaws.{list_any_map}
+use Rattle.base_laws.proofs.Tests.{list_any_map}
 use Rattle.serde_json.specs.declared.value.Value.{Value}
 use Rattle.serde_json.specs.View.{view, items_view, members_view}
 use Rattle.model_reader.specs.Files.{has_only_keys, values_of}

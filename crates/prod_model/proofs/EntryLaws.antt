@@ -11,7 +11,7 @@ use Rattle.prod_model.specs.Names.{same_text}
 use Rattle.prod_model.specs.Forest.{line}
 use Rattle.prod_model.specs.Taxonomy.{Named, declarations_of, new_declarations, all_new_declarations, first_id, new_entries, kept_entry, extended_entries, entries_of}
 use Rattle.prod_model.proofs.ForestLines.{HasNoCycle, line_of_parent}
-use Rattle.prod_model.proofs.ListLaws.{range_split}
+use Rattle.base_laws.proofs.Ranges.{range_split}
 
 module _ {D A : Type 0} (declared : TypeDecl → List D) (name_of : D → List ℕ)
     (made : ℕ → D → A) (narrowed : D → A → A) where

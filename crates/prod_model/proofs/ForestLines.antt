@@ -11,7 +11,7 @@ use Rattle.std.proofs.lemmas.Option.{slice_get_within, slice_get_cases}
 use Rattle.prod_model.specs.declared.model.Model.{Model}
 use Rattle.prod_model.specs.declared.model.TypeDecl.{TypeDecl}
 use Rattle.prod_model.specs.Forest.{line_within, line, ancestors, is_in_circle, is_forest}
-use Rattle.prod_model.proofs.ListLaws.{list_all_below}
+use Rattle.base_laws.proofs.Ranges.{list_all_below}
 
 -- no type is its own ancestor
 abbrev pub HasNoCycle : List TypeDecl → Type 0

@@ -1,6 +1,4 @@
 pub mod TaxonomyLaws
-pub mod Masks
-pub mod ListLaws
 pub mod NameLaws
 pub mod ForestLines
 pub mod EntryLaws

@@ -5,7 +5,7 @@ use Rattle.std.specs.List.{list_any, position}
 use Rattle.std.specs.Cmp.Lexicographic.{nat_list_eq_equiv}
 use Rattle.std.proofs.lemmas.Bool.Decides.{nat_tests}
 use Rattle.prod_model.specs.Names.{same_text}
-use Rattle.prod_model.proofs.ListLaws.{list_any_map, position_map}
+use Rattle.base_laws.proofs.Tests.{list_any_map, position_map}
 
 -- a text is the same as itself
 pub same_text_refl : (t : List ℕ) → same_text t t ≡ true

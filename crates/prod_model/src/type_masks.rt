@@ -67,7 +67,7 @@ impl TypeMasks {
 }
 
 /// The mask of each type: itself, and the types that it is an ancestor of.
-#[tactic(auto, using(crate::proofs::Masks::bit_at_zeros, crate::proofs::ValidModels::line_outside))]
+#[tactic(auto, using(base_laws::proofs::Masks128::bit_at_zeros, crate::proofs::ValidModels::line_outside))]
 fn types_under(types: &[TypeDecl]) -> [u128; 128]
     requires { length types.now ≤ 128 }
     ensures { (u : ℕ) → IsMask (slice_index result u) (λ t. is_on (line types.now t) u) }
@@ -122,7 +122,7 @@ fn leaves(types: &[TypeDecl]) -> u128
     leaves
 }
 
-#[tactic(auto, using(crate::proofs::Masks::bit_at_with))]
+#[tactic(auto, using(base_laws::proofs::Masks128::bit_at_with))]
 fn with_bit(mask: u128, t: u32) -> u128
     requires { t < 128 }
     ensures { (i : ℕ) → bit_at result i ≡ (if i == t then 1 else bit_at mask i) }
@@ -130,7 +130,7 @@ fn with_bit(mask: u128, t: u32) -> u128
     mask | (1u128 << t)
 }
 
-#[tactic(auto, using(crate::proofs::Masks::bit_at_without))]
+#[tactic(auto, using(base_laws::proofs::Masks128::bit_at_without))]
 fn without_bit(mask: u128, t: u32) -> u128
     requires { t < 128 }
     ensures { (i : ℕ) → bit_at result i ≡ (if i == t then 0 else bit_at mask i) }

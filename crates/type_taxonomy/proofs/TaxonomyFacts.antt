@@ -8,7 +8,7 @@ use Rattle.prod_model.specs.declared.model.Model.{Model}
 use Rattle.prod_model.specs.declared.model.TypeDecl.{TypeDecl}
 use Rattle.prod_model.specs.Forest.{is_type, is_in_circle, is_forest}
 use Rattle.prod_model.specs.Valid.{knows_types, has_known_parents, attribute_narrows, port_narrows, has_narrowings, has_distinct_names, has_room_at, has_room, IsTaxonomy}
-use Rattle.prod_model.proofs.ListLaws.{list_all_below}
+use Rattle.base_laws.proofs.Ranges.{list_all_below}
 use Rattle.prod_model.proofs.ForestLines.{line_short, no_cycle}
 use Rattle.type_taxonomy.specs.declared.fault.TaxFault.{TaxFault}
 use Rattle.type_taxonomy.specs.steps.Built.{NarrowsAll}

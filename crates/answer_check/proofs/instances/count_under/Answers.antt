@@ -1,6 +1,6 @@
 use Rattle.std.proofs.Common.{arith}
 use Rattle.config_value.specs.Value.{under}
-use Rattle.answer_check.proofs.Counted.{count_by_next}
+use Rattle.base_laws.proofs.Steps.{count_by_next}
 use Rattle.answer_check.proofs.instances.count_under.Goals as goal
 use Rattle.answer_check.proofs.instances.count_under.Goals.{then-is_under, else-is_under}
 

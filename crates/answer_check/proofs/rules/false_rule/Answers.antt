@@ -3,7 +3,7 @@ use Rattle.answer_check.specs.Finds.{BreaksAt}
 use Rattle.answer_check.proofs.FewItems.{few_shaped, few_rules}
 use Rattle.answer_check.proofs.FaultlessLaws.{faultless_rule, rule_within, rule_item_within}
 use Rattle.answer_check.proofs.FirstRule.{IsFirstSoFar, first_start, first_found, first_kept, first_end, rule_finds}
-use Rattle.answer_check.proofs.ZippedLists.{read_at}
+use Rattle.base_laws.proofs.Places.{read_at}
 use Rattle.answer_check.proofs.rules.false_rule.Goals as goal
 use Rattle.answer_check.proofs.rules.false_rule.Goals.{in-Some, in_default}
 

@@ -3,7 +3,7 @@ use Rattle.std.proofs.lemmas.Option.{same_Some}
 use Rattle.config_value.specs.Satisfies.{meets as meets_of}
 use Rattle.config_value.specs.Value.{is_true_at}
 use Rattle.answer_check.proofs.FaultlessLaws.{request_bounded}
-use Rattle.answer_check.proofs.ZippedLists.{read_at}
+use Rattle.base_laws.proofs.Places.{read_at}
 use Rattle.answer_check.proofs.rules.meets.Goals as goal
 
 pub truth_at-requires-clause-bounded : goal.truth_at-requires-clause-bounded

@@ -4,7 +4,7 @@ use Rattle.std.proofs.lemmas.Grind.{common_steps}
 use Rattle.std.proofs.lemmas.Int.{ints, to_z-of_z}
 use Rattle.std.proofs.lemmas.List.{take_all}
 use Rattle.canonical_form.specs.Pieces.{attribute_piece, is_written}
-use Rattle.prod_model.proofs.ListLaws.{list_all_at_place}
+use Rattle.base_laws.proofs.Tests.{list_all_at}
 use Rattle.canonical_form.proofs.Zipped.{flat_map_take_more, triple_read, length_triple}
 use Rattle.canonical_form.proofs.pieces.put_attributes.Goals as goal
 
@@ -15,8 +15,8 @@ put_attribute-requires c =
     let own : to_z w64 (of_z w64 value) ≡ value = search (rules, ints, to_z-of_z) in
     let all = triple_read (λ d. d.now) c.args.firsts.now c.args.attrs.now c.args.values.now k c.index-firsts-k.result c.index-attrs-k.result (pos 0)
     c.requires.firsts c.requires.values c.loop-k-test.true c.index-firsts-k.is c.index-attrs-k.is in
-    let written = list_all_at_place is_written (zip (map (λ d. d.now) c.args.firsts.now) (zip c.args.attrs.now c.args.values.now)) k
-    (c.index-firsts-k.result.now, (c.index-attrs-k.result, value)) c.requires.written all in
+    let written = list_all_at is_written (zip (map (λ d. d.now) c.args.firsts.now) (zip c.args.attrs.now c.args.values.now)) c.requires.written k
+    (c.index-firsts-k.result.now, (c.index-attrs-k.result, value)) all in
     rw own written
 
 pub loop-k-preserved : goal.loop-k-preserved

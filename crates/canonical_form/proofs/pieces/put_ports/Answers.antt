@@ -4,7 +4,7 @@ use Rattle.std.proofs.lemmas.Grind.{common_steps}
 use Rattle.std.proofs.lemmas.List.{length-map, take_all}
 use Rattle.std.proofs.lemmas.Option.{slice_get_read}
 use Rattle.canonical_form.specs.Pieces.{port_piece}
-use Rattle.prod_model.proofs.ListLaws.{slice_get_zip}
+use Rattle.base_laws.proofs.Lists.{slice_get_zip}
 use Rattle.canonical_form.proofs.Zipped.{slice_get_map_read, flat_map_take_more, length_zip}
 use Rattle.canonical_form.proofs.pieces.put_ports.Goals as goal
 

@@ -1,4 +1,4 @@
-use Rattle.prod_model.proofs.Masks.{bit_at_first, bit_at_first_below}
+use Rattle.base_laws.proofs.Masks128.{bit_at_first, bit_at_first_below}
 use Rattle.prod_model.proofs.type_masks.first_bits.Goals as goal
 use Rattle.std.proofs.Common.{arith}
 

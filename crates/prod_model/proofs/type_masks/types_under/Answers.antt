@@ -1,6 +1,6 @@
 use Rattle.std.proofs.Common.{arith}
 use Rattle.std.proofs.lemmas.Bool.Decides.{nat_tests}
-use Rattle.prod_model.proofs.Masks.{bit_at_zeros}
+use Rattle.base_laws.proofs.Masks128.{bit_at_zeros}
 use Rattle.prod_model.proofs.type_masks.types_under.Goals as goal
 
 -- no bit is set at first

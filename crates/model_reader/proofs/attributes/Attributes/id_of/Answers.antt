@@ -2,7 +2,7 @@ use Rattle.std.proofs.Common.{◌∙◌, ap, refl}
 use Rattle.std.specs.List.{position}
 use Rattle.prod_model.specs.Names.{same_text}
 use Rattle.model_reader.specs.PlainFile.{attribute_named}
-use Rattle.prod_model.proofs.ListLaws.{position_map}
+use Rattle.base_laws.proofs.Tests.{position_map}
 use Rattle.model_reader.proofs.attributes.Attributes.id_of.Goals as goal
 
 pub returns : goal.returns

@@ -1,4 +1,4 @@
--- The bits of a mask.
+-- The bits of a mask of 128 bits.
 use Rattle.std.proofs.Common.{◌≡◌, ℕ, ◌-◌, ◌<◌, ◌*◌, ◌%◌, ◌^◌, bit_or, bit_and, arith}
 use Rattle.std.proofs.Math.Nat.{one-mul, mod-eq_of_lt}
 use Rattle.std.proofs.Math.Pow.{pow-lt}

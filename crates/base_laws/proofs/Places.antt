@@ -1,15 +1,21 @@
--- Tests of lists and what they find.
-use Rattle.std.proofs.Common.{◌≡◌, ℕ, zero, suc, ◌+◌, Bool, true, false, cond, List, [], ◌∷◌, ◌++◌, map, Some, refl, sym, ap, ◌∙◌, subst, arith}
-use Rattle.std.specs.Prelude.{IsTrue}
+-- What stands at a place of a list that is mapped, filtered, joined or searched.
+use Rattle.std.proofs.Common.{◌≡◌, ℕ, zero, suc, ◌<◌, ◌+◌, Bool, true, false, cond, List, [], ◌∷◌, ◌++◌, length, get_or, map, Some, refl, sym, ap, ◌∙◌, subst, arith}
+use Rattle.std.specs.Prelude.{IsTrue, slice_get}
 use Rattle.std.specs.Option.{option_map}
 use Rattle.std.specs.List.{filter, find, position, position_from}
-use Rattle.std.proofs.lemmas.Option.{same_Some, none-some, slice_get-map}
+use Rattle.std.proofs.lemmas.Option.{same_Some, none-some, slice_get-map, slice_get_read}
 use Rattle.std.proofs.lemmas.Iterator.Adapters.{position_from-zero}
-use Rattle.config_value.specs.ShapedSentences.{IsAt}
+use Rattle.base_laws.specs.Places.{IsAt}
 
 -- each place of the first list has an element of the second there that stands so to it
 abbrev pub HasEach : {A : Type 0} → (A → A → Type 0) → List A → List A → Type 0
 HasEach {A} R xs ys = (k : ℕ) (x : A) → IsAt xs k x → (y : A) × IsAt ys k y × R x y
+
+-- what stands after as many elements as there are before it
+pub slice_get_middle : {X : Type 0} (before : List X) (x : X) (rest : List X)
+    → slice_get (before ++ x ∷ rest) (length before) ≡ Some x
+slice_get_middle [] x rest = refl
+slice_get_middle (b ∷ before) x rest = slice_get_middle before x rest
 
 -- what stands in a mapped list is the image of what stands there
 pub map_at : {A B : Type 0} (f : A → B) (xs : List A) (k : ℕ) (y : B) → IsAt (map f xs) k y → (x : A) × IsAt xs k x × (f x ≡ y)
@@ -88,3 +94,7 @@ find_place p R same (x' ∷ xs) (y' ∷ ys) x found each = by (p x') refl (λ mo
 -- the first place that passes, counted from 0
 pub position_is : {A : Type 0} (p : A → Bool) (xs : List A) (k : ℕ) → ((i : ℕ) → position_from p i xs ≡ Some (i + k)) → position p xs ≡ Some k
 position_is p xs k from = position_from-zero p xs ∙ from 0 ∙ ap Some (omega arith)
+
+-- what was read of a list at a place in range stands there in a list that is equal
+pub read_at : {X : Type 0} (xs ys : List X) (k : ℕ) (x : X) → xs ≡ ys → k < length xs → x ≡ get_or xs k x → slice_get ys k ≡ Some x
+read_at xs ys k x same within is = ap (λ zs. slice_get zs k) (sym same) ∙ slice_get_read xs (length xs) k x refl within is
