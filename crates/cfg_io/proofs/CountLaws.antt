@@ -6,7 +6,8 @@ use Rattle.std.specs.Prelude.{map}
 use Rattle.std.specs.Str.{bytes_eq}
 use Rattle.cfg_io.specs.declared.fault_counts.FaultCount.{FaultCount}
 use Rattle.cfg_io.specs.Causes.{raised, Rose}
-use Rattle.cfg_io.specs.Counts.{AreBounded, count_of, is_kept, with_room, with_fault}
+use Rattle.cfg_io.specs.Counts.{count_of, with_fault}
+use Rattle.cfg_io.specs.steps.Counts.{AreBounded, is_kept, with_room}
 use Rattle.cfg_io.specs.FaultCounts.{shown}
 
 is_own : (name : List ℕ) → bytes_eq name name ≡ true

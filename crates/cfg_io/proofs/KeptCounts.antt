@@ -8,7 +8,8 @@ use Rattle.std.specs.Str.{bytes_eq}
 use Rattle.std.specs.List.{position_or_len}
 use Rattle.cfg_io.specs.declared.fault_counts.FaultCount.{FaultCount}
 use Rattle.cfg_io.specs.Causes.{raised}
-use Rattle.cfg_io.specs.Counts.{is_kept, with_room, with_fault}
+use Rattle.cfg_io.specs.Counts.{with_fault}
+use Rattle.cfg_io.specs.steps.Counts.{is_kept, with_room}
 use Rattle.cfg_io.specs.FaultCounts.{shown}
 
 -- a name is kept where it has a place

@@ -3,7 +3,8 @@ use Rattle.std.proofs.Common.{ℕ, ◌+◌, ◌≤◌, List, [], ◌++◌, lengt
 use Rattle.std.proofs.lemmas.List.{take-append-drop}
 use Rattle.std.specs.Prelude.{Some, None, Option}
 use Rattle.std.specs.Io.KnownBytes.{Appends, Consumes}
-use Rattle.cfg_io.specs.Streams.{TakesAtMost, Leaves, GetsFront}
+use Rattle.cfg_io.specs.Streams.{Leaves, GetsFront}
+use Rattle.cfg_io.specs.steps.Streams.{TakesAtMost}
 
 -- what two calls take
 pub consumes_both : (a b c : Option (List ℕ)) (xs ys : List ℕ)

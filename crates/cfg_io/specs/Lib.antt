@@ -9,3 +9,4 @@ pub mod OutSinks
 pub mod Shelves
 pub mod Sinks
 pub mod Streams
+pub mod steps

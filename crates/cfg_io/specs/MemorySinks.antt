@@ -23,7 +23,8 @@ after_write piece sink = record sink {
   calls = raised sink.calls;
 }
 
--- the sink after a call that failed behind so many bytes, or behind the whole piece if it is shorter
+-- the sink after a call that failed behind so many bytes, or behind the whole piece if that is
+-- shorter
 abbrev pub after_stop : ℕ → List ℕ → SinkState → SinkState
 after_stop stop piece sink = record sink {
   written = sink.written ++ take stop piece;

@@ -1,19 +1,7 @@
--- What is taken of a reader and added to a writer, where they tell their bytes.
-use Rattle.std.specs.Prelude.{◌≡◌, ℕ, List, ◌++◌, ◌≤◌, length}
+-- What is added to a writer, where it tells its bytes.
+use Rattle.std.specs.Prelude.{◌≡◌, ℕ, List, ◌++◌}
 use Rattle.std.specs.declared.option.Option.{Option}
-use Rattle.std.specs.Io.KnownBytes.{Appends, Consumes}
-
--- what the reader lost was added to the bytes
-pub record Moves (old new : Option (List ℕ)) (before after : List ℕ) : Type 0 where
-  pub piece : List ℕ
-  pub taken : Consumes old new piece
-  pub added : after ≡ before ++ piece
-
--- the reader lost at most so many bytes
-pub record TakesAtMost (most : ℕ) (old new : Option (List ℕ)) : Type 0 where
-  pub piece : List ℕ
-  pub taken : Consumes old new piece
-  pub within : length piece ≤ most
+use Rattle.std.specs.Io.KnownBytes.{Appends}
 
 -- the writer got the piece but for the rest at its end
 pub record Leaves (old new : Option (List ℕ)) (piece rest : List ℕ) : Type 0 where

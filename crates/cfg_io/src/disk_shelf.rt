@@ -4,10 +4,11 @@ ghost use Rattle.std.specs.Io.KnownBytes.{IsAtEnd};
 ghost use Rattle.std.specs.Option.{ForSome};
 ghost use Rattle.std.specs.Result.{IsErrOf};
 ghost use Rattle.cfg_io.specs.Causes.{Rose};
-ghost use Rattle.cfg_io.specs.Counts.{count_of, is_kept, with_fault};
+ghost use Rattle.cfg_io.specs.Counts.{count_of, with_fault};
+ghost use Rattle.cfg_io.specs.steps.Counts.{is_kept};
 ghost use Rattle.cfg_io.specs.FaultCounts.{counts_of};
 ghost use Rattle.cfg_io.specs.Shelves.{file, IsLonger};
-ghost use Rattle.cfg_io.specs.Streams.{Moves, TakesAtMost};
+ghost use Rattle.cfg_io.specs.steps.Streams.{Moves, TakesAtMost};
 
 use crate::fault_counts::FaultCounts;
 use crate::shelf::{ReadError, Shelf};

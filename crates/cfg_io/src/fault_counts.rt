@@ -1,7 +1,8 @@
 // The counts of faults of a shelf, one for each name.
 ghost use Rattle.std.specs.Prelude.{◌≡◌, ◌-◌, ◌^◌, ◌≤◌, [], true, OnOk, OnErr, position, string_bytes};
 ghost use Rattle.std.specs.Str.{bytes_eq};
-ghost use Rattle.cfg_io.specs.Counts.{is_kept, with_fault, with_room};
+ghost use Rattle.cfg_io.specs.Counts.{with_fault};
+ghost use Rattle.cfg_io.specs.steps.Counts.{is_kept, with_room};
 
 use std::alloc::{AllocError, Global};
 

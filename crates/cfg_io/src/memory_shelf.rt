@@ -4,7 +4,8 @@ ghost use Rattle.std.specs.Option.{option_copied};
 ghost use Rattle.std.specs.Result.{IsErrOf};
 ghost use Rattle.std.specs.Str.{bytes_eq};
 ghost use Rattle.cfg_io.specs.Causes.{Rose};
-ghost use Rattle.cfg_io.specs.Counts.{AreBounded, count_of};
+ghost use Rattle.cfg_io.specs.Counts.{count_of};
+ghost use Rattle.cfg_io.specs.steps.Counts.{AreBounded};
 ghost use Rattle.cfg_io.specs.Memory.{LacksMemory};
 ghost use Rattle.cfg_io.specs.MemoryShelves.{after_call, after_fault, Exceeds, Fails, Gives, is_to_fail};
 ghost use Rattle.cfg_io.specs.MemoryFiles.{named_bytes};
@@ -107,8 +108,10 @@ impl Shelf for MemoryShelf {
         // What each shelf ensures.
         ensures same { self.new.files ≡ self.old.files }
         ensures short { IfOk result (λ bytes. length bytes.items ≤ limit) }
-        ensures found { IfOk result (λ bytes. TellsBytes (Some self.old.files) name.now bytes.items) }
-        ensures too_long { IsErrOf result ReadError.TooLong → TellsMore (Some self.old.files) name.now limit }
+        ensures found { IfOk result (λ bytes.
+            TellsBytes (Some self.old.files) name.now bytes.items) }
+        ensures too_long { IsErrOf result ReadError.TooLong
+            → TellsMore (Some self.old.files) name.now limit }
         ensures failed { IsErrOf result ReadError.Failed
             → Rose (count_of name.now self.old.faults) (count_of name.now self.new.faults) }
         ensures uncounted { ¬ IsErrOf result ReadError.Failed
@@ -133,8 +136,10 @@ impl Shelf for MemoryShelf {
 
         // What is counted.
         ensures counts_read { OnOk result (self.new ≡ after_call self.old) }
-        ensures counts_too_long { IsErrOf result ReadError.TooLong → self.new ≡ after_call self.old }
-        ensures counts_failed { IsErrOf result ReadError.Failed → self.new ≡ after_fault name.now self.old }
+        ensures counts_too_long { IsErrOf result ReadError.TooLong
+            → self.new ≡ after_call self.old }
+        ensures counts_failed { IsErrOf result ReadError.Failed
+            → self.new ≡ after_fault name.now self.old }
         ensures unchanged { (e : _) → IsErrOf result (ReadError.Memory e) → self.new ≡ self.old }
     {
         match self.answer(name, limit) {

@@ -75,7 +75,8 @@ impl Sink for MemorySink {
     /// not counted.
     fn write(&mut self, piece: &[u8]) -> Result<(), WriteError>
         // What each sink ensures.
-        ensures whole { OnOk result (TellsWhole (Some self.old.written) piece.now (Some self.new.written)) }
+        ensures whole { OnOk result
+            (TellsWhole (Some self.old.written) piece.now (Some self.new.written)) }
         ensures front { IsErrOf result WriteError.Failed
             → TellsFront (Some self.old.written) piece.now (Some self.new.written) }
         ensures nothing { (e : _) → IsErrOf result (WriteError.Memory e)

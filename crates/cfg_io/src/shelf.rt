@@ -43,15 +43,17 @@ pub trait Shelf {
     /// Reads the file of that name, if it has at most `limit` bytes.
     ///
     /// `Failed` comes only where the name's count of faults rose, and no count rises with another
-    /// answer. `TooLong` comes where the file has more than `limit` bytes. Where the shelf tells its files, a file that is there and no
-    /// longer than `limit` gives its bytes, unless the call fails or memory runs out.
+    /// answer. `TooLong` comes where the file has more than `limit` bytes. Where the shelf tells
+    /// its files, a file that is there and no longer than `limit` gives its bytes, unless the call
+    /// fails or memory runs out.
     fn read(&mut self, name: &str, limit: usize) -> Result<Vec<u8>, ReadError>
         ensures same { files self.new ≡ files self.old }
 
         // What is answered.
         ensures short { IfOk result (λ bytes. length bytes.items ≤ limit) }
         ensures found { IfOk result (λ bytes. TellsBytes (files self.old) name.now bytes.items) }
-        ensures too_long { IsErrOf result ReadError.TooLong → TellsMore (files self.old) name.now limit }
+        ensures too_long { IsErrOf result ReadError.TooLong
+            → TellsMore (files self.old) name.now limit }
         ensures failed { IsErrOf result ReadError.Failed
             → Rose (faults self.old name.now) (faults self.new name.now) }
 

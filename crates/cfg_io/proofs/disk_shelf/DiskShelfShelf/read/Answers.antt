@@ -1,5 +1,6 @@
 use Rattle.std.proofs.Common.{◌≡◌, ◌∙◌, ap}
-use Rattle.cfg_io.specs.Counts.{AreBounded, with_fault, with_room}
+use Rattle.cfg_io.specs.Counts.{with_fault}
+use Rattle.cfg_io.specs.steps.Counts.{AreBounded, with_room}
 use Rattle.cfg_io.specs.FaultCounts.{counts_of}
 use Rattle.cfg_io.proofs.CountLaws.{kept_fits, kept_in_room, count_in_room, fault_in_room, one_fault, Settles, settled}
 use Rattle.cfg_io.proofs.disk_shelf.DiskShelfShelf.read.Given as given

@@ -1,6 +1,6 @@
 use Rattle.std.proofs.Common.{◌≡◌, ◌∙◌, sym, ap, ℕ, List}
 use Rattle.std.specs.Prelude.{is_some}
-use Rattle.cfg_io.specs.Counts.{is_kept}
+use Rattle.cfg_io.specs.steps.Counts.{is_kept}
 use Rattle.cfg_io.specs.FaultCounts.{counts_of}
 use Rattle.cfg_io.proofs.KeptCounts.{kept_at, room_behind, room_kept}
 use Rattle.cfg_io.proofs.fault_counts.FaultCounts.make_room.Goals as goal

@@ -2,7 +2,7 @@ use Rattle.std.proofs.Common.{◌≡◌, ◌∙◌, sym, ap, true, rules, string
 use Rattle.std.specs.Prelude.{is_some}
 use Rattle.cfg_io.specs.declared.fault_counts.FaultCount.{FaultCount}
 use Rattle.cfg_io.specs.Causes.{raised}
-use Rattle.cfg_io.specs.Counts.{is_kept}
+use Rattle.cfg_io.specs.steps.Counts.{is_kept}
 use Rattle.cfg_io.specs.FaultCounts.{counts_of}
 use Rattle.cfg_io.proofs.KeptCounts.{kept_at, fault_at_place}
 use Rattle.cfg_io.proofs.fault_counts.FaultCounts.raise.Goals as goal
