@@ -21,9 +21,9 @@ use Rattle.config_value.proofs.ShapedSentences.{shaped_sentences}
 use Rattle.config_value.proofs.ValueLaws.{value_at_Num, value_at_Attr, value_at_Count, value_at_CountOf, value_at_Sum, value_at_Total, value_at_Number, value_at_Add, value_at_Sub, value_at_Times, value_at_Cmp, value_at_Is, value_at_Kind, value_at_And, value_at_Or, value_at_Not, value_at_If, value_at_All, value_at_Any}
 use Rattle.answer_check.specs.Faultless.{HasBoundsAt}
 use Rattle.answer_check.specs.Evaluable.{form_value, IsSmall, IsEvaluable, HasBoundsAtEach}
-use Rattle.answer_check.proofs.BoundsLaws.{bounds_hold}
-use Rattle.answer_check.proofs.HeldLaws.{held_links}
-use Rattle.answer_check.proofs.ToldLaws.{and_then_some, if_some}
+use Rattle.config_value.proofs.BoundsLaws.{bounds_hold}
+use Rattle.config_value.proofs.HeldLaws.{held_links}
+use Rattle.config_value.proofs.ToldLaws.{and_then_some, if_some}
 use Rattle.answer_check.proofs.BoundsUse.{IsLimited, IsTold, within_small, bounded_limited, of_range_limited, difference_limited, multiple_limited, sum_limited, difference_parts, multiple_part, comparison_parts, sum_parts, truth_parts}
 
 -- ---- values

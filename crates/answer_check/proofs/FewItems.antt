@@ -15,7 +15,7 @@ use Rattle.config_value.proofs.Places.{is_between_at}
 use Rattle.config_value.specs.Shaped.{is_shaped}
 use Rattle.config_value.specs.Value.{under}
 use Rattle.std.proofs.lemmas.List.Sums.{count_by-le-length}
-use Rattle.answer_check.proofs.SpelledLaws.{shaped_is_spelled}
+use Rattle.config_value.proofs.SpelledLaws.{shaped_is_spelled}
 use Rattle.prod_model.proofs.TaxonomyLaws.{no_attributes, no_ports}
 
 pub few_instances : (m : Model) (c : List Instance) → IsTrue (is_spelled m c) → length c ≤ 64

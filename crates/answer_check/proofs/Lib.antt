@@ -1,4 +1,3 @@
-pub mod NoTypes
 pub mod Items
 pub mod FewItems
 pub mod BrokenPorts
@@ -8,17 +7,7 @@ pub mod BreakParts
 pub mod Singles
 pub mod SeenParts
 pub mod SharedParts
-pub mod LinkPushed
 pub mod TurnMasks
-pub mod LineLaws
-mod EntryLaws
-pub mod NarrowingLaws
-pub mod HeldLaws
-mod SumLaws
-mod ToldLaws
-pub mod BoundsLaws
-pub mod SpelledLaws
-pub mod IntSums
 pub mod EvaluationLaws
 pub mod BoundsUse
 pub mod FaultlessLaws

@@ -19,7 +19,7 @@ use Rattle.answer_check.specs.Finds.{BreaksAt, FindsItem}
 use Rattle.answer_check.specs.Turns.{no_turns, comes_in_turn, turns_after_link, turns_after_port, turns_after_instance, turns_in}
 use Rattle.answer_check.proofs.BreakParts.{misnumbered_parts}
 use Rattle.base_laws.proofs.Steps.{fold_next}
-use Rattle.answer_check.proofs.LinkPushed.{is_mentioned, in_turn_of, mentioned_pushed, in_turn_pushed, in_turn_mentioned}
+use Rattle.config_value.proofs.LinkPushed.{is_mentioned, in_turn_of, mentioned_pushed, in_turn_pushed, in_turn_mentioned}
 use Rattle.base_laws.proofs.Masks64.{bit_at_with}
 
 -- ---- the links of ports and instances are all links, in order

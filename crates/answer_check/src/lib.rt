@@ -6,7 +6,6 @@ mod first_words;
 mod in_order;
 mod instance_set;
 mod instances;
-pub mod laws;
 mod linked;
 mod links;
 mod masks;

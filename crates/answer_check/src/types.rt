@@ -7,7 +7,7 @@ ghost use Rattle.prod_model.specs.Taxonomy.{attributes_at, ports_at};
 use prod_model::{AttrAt, PortAt, Problem};
 
 /// Whether the type is the type `of` or under it.
-#[tactic(auto, using(crate::proofs::NoTypes::is_a_outside))]
+#[tactic(auto, using(prod_model::proofs::NoTypes::is_a_outside))]
 pub(crate) fn is_under(problem: &Problem, kind: u32, of: u32) -> bool
     ensures { result ≡ is_a problem.now kind of }
 {
@@ -16,7 +16,7 @@ pub(crate) fn is_under(problem: &Problem, kind: u32, of: u32) -> bool
 }
 
 /// The attributes of a type.
-#[tactic(auto, using(crate::proofs::NoTypes::no_attributes))]
+#[tactic(auto, using(prod_model::proofs::NoTypes::no_attributes))]
 pub(crate) fn attributes_of(problem: &Problem, kind: u32) -> &[AttrAt]
     ensures { result.now ≡ attributes_at problem.now kind }
 {
@@ -28,7 +28,7 @@ pub(crate) fn attributes_of(problem: &Problem, kind: u32) -> &[AttrAt]
 }
 
 /// The ports of a type.
-#[tactic(auto, using(crate::proofs::NoTypes::no_ports))]
+#[tactic(auto, using(prod_model::proofs::NoTypes::no_ports))]
 pub(crate) fn ports_of(problem: &Problem, kind: u32) -> &[PortAt]
     ensures { result.now ≡ ports_at problem.now kind }
 {

@@ -17,3 +17,10 @@ mod RulesExamples
 mod ConflictExamples
 mod PreferredConflictExamples
 mod PreferredExamples
+pub mod HeldLaws
+pub mod SumLaws
+pub mod ToldLaws
+pub mod BoundsLaws
+pub mod SpelledLaws
+pub mod LinkPushed
+pub mod IntSums

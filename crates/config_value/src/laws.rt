@@ -1,6 +1,8 @@
-//! The laws of the order on configurations and of conflicts, each as a function that a layer above can call.
+//! The laws of configurations, of their order and of conflicts, each as a function that a layer above can
+//! call.
 ghost use Rattle.config_value.specs.Laws.{KeyDetermines, RanksTotally, HasOnePreferred, HasOnePreferredConflict, PreferredConflictIsMinimal, PreferredConflictIsEmpty};
 ghost use Rattle.config_value.specs.ShapedSentences.{ShapedSentences};
+ghost use Rattle.config_value.specs.BoundsHold.{BoundsHold, ShapedIsSpelled};
 
 /// A configuration is shaped exactly where it has its shape, place by place.
 pub fn shaped_sentences()
@@ -35,4 +37,15 @@ pub fn preferred_conflict_is_minimal()
 /// The preferred conflict keeps no request exactly where no configuration satisfies the model.
 pub fn preferred_conflict_is_empty()
     ensures { PreferredConflictIsEmpty }
+{}
+
+/// In a shaped configuration, at each instance under a type, the value of an expression lies within its bounds
+/// there.
+pub fn bounds_hold()
+    ensures { BoundsHold }
+{}
+
+/// A shaped configuration of a model can be spelled.
+pub fn shaped_is_spelled()
+    ensures { ShapedIsSpelled }
 {}

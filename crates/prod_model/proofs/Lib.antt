@@ -16,3 +16,7 @@ mod NameExamples
 mod FormedExamples
 mod NarrowingExamples
 mod OrderExamples
+pub mod LineLaws
+pub mod NarrowingLaws
+pub mod NoTypes
+pub mod EntryNames

@@ -3,7 +3,7 @@ use Rattle.std.specs.List.{fold}
 use Rattle.answer_check.specs.InstanceSets.{is_member, with_instance}
 use Rattle.answer_check.proofs.FewItems.{few_shaped}
 use Rattle.answer_check.proofs.LinkedLaws.{linked_next}
-use Rattle.answer_check.proofs.SpelledLaws.{shaped_is_spelled}
+use Rattle.config_value.proofs.SpelledLaws.{shaped_is_spelled}
 use Rattle.answer_check.proofs.linked.linked_from.Goals as goal
 
 pub overflow_cast-i-end : goal.overflow_cast-i-end

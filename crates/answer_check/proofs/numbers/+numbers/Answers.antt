@@ -7,7 +7,7 @@ use Rattle.prod_model.specs.declared.expr.Expr.{the_lemmas}
 use Rattle.std.proofs.lemmas.Option.{slice_get_read}
 use Rattle.config_value.specs.Value.{number_at}
 use Rattle.answer_check.proofs.FewItems.{few_shaped}
-use Rattle.answer_check.proofs.IntSums.{sum_next}
+use Rattle.config_value.proofs.IntSums.{sum_next}
 use Rattle.answer_check.proofs.EvaluationLaws.{value_at_form, evaluable}
 use Rattle.answer_check.proofs.numbers.+numbers.Goals as goal
 

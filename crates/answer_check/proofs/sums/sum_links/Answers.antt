@@ -1,7 +1,7 @@
 use Rattle.std.proofs.Common.{arith}
 use Rattle.std.proofs.lemmas.Int.{ints}
 use Rattle.config_value.specs.Value.{value_at_instance}
-use Rattle.answer_check.proofs.IntSums.{sum_more}
+use Rattle.config_value.proofs.IntSums.{sum_more}
 use Rattle.answer_check.proofs.sums.sum_links.Goals as goal
 
 pub loop-j-preserved : goal.loop-j-preserved

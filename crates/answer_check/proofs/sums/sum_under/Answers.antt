@@ -3,7 +3,7 @@ use Rattle.std.proofs.lemmas.Int.{ints}
 use Rattle.std.proofs.lemmas.List.{take_all}
 use Rattle.config_value.specs.declared.configuration.Instance.{Instance}
 use Rattle.config_value.specs.Value.{value_of, under, sum_of}
-use Rattle.answer_check.proofs.IntSums.{sum_next, sum_filtered}
+use Rattle.config_value.proofs.IntSums.{sum_next, sum_filtered}
 use Rattle.answer_check.proofs.sums.sum_under.Goals as goal
 
 pub loop-i-preserved : goal.loop-i-preserved

@@ -25,9 +25,9 @@ use Rattle.base_laws.specs.Places.{IsAt}
 use Rattle.base_laws.proofs.Tests.{list_all_at, list_any_from}
 use Rattle.prod_model.proofs.NameLaws.{same_text_refl}
 use Rattle.prod_model.proofs.ForestLines.{HasNoCycle, HasParent, no_cycle}
-use Rattle.answer_check.proofs.LineLaws.{along_lines, is_a_cases, is_a_trans}
+use Rattle.prod_model.proofs.LineLaws.{along_lines, is_a_cases, is_a_trans}
 use Rattle.base_laws.proofs.Places.{HasEach, find_at, map_at, at_map, at_front}
-use Rattle.answer_check.proofs.EntryLaws.{same_text_same, entries_parent, names_distinct}
+use Rattle.prod_model.proofs.EntryNames.{same_text_same, entries_parent, names_distinct}
 
 -- ---- what a narrowing is
 

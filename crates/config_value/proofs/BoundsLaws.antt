@@ -31,8 +31,8 @@ use Rattle.config_value.specs.BoundsHold.{IsWithinBounds, BoundsHold}
 use Rattle.config_value.proofs.ShapedSentences.{shaped_sentences}
 use Rattle.config_value.proofs.ValueLaws.{value_at_Num, value_at_Attr, value_at_Count, value_at_CountOf, value_at_Sum, value_at_Total, value_at_Number, value_at_Add, value_at_Sub, value_at_Times, value_at_Cmp, value_at_Is, value_at_Kind, value_at_And, value_at_Or, value_at_Not, value_at_If, value_at_All, value_at_Any}
 use Rattle.base_laws.proofs.Places.{map_at, filter_at}
-use Rattle.answer_check.proofs.HeldLaws.{IsInRange, held_value, held_links}
-use Rattle.answer_check.proofs.ToldLaws.{IsToldOf, and_then_some, map_some, if_some, number_within, value_within, values_within, truth_within, truth_told, comparison_told, multiple_within, difference_within, sum_within}
+use Rattle.config_value.proofs.HeldLaws.{IsInRange, held_value, held_links}
+use Rattle.config_value.proofs.ToldLaws.{IsToldOf, and_then_some, map_some, if_some, number_within, value_within, values_within, truth_within, truth_told, comparison_told, multiple_within, difference_within, sum_within}
 
 module _ (m : Model) (c : List Instance) (is : IsDeclared m) (s : HasShape m c) where
   -- at each instance under a type, the value of the expression lies within its bounds at the type

@@ -12,7 +12,7 @@ use Rattle.prod_model.specs.Taxonomy.{Named, declarations_of, new_declarations, 
 use Rattle.prod_model.proofs.NameLaws.{same_text_refl}
 use Rattle.prod_model.proofs.ForestLines.{HasNoCycle, HasParent, line_parent}
 use Rattle.prod_model.proofs.EntryLaws as Entries
-use Rattle.answer_check.proofs.LineLaws.{no_type, alone, below, line_of, along_lines}
+use Rattle.prod_model.proofs.LineLaws.{no_type, alone, below, line_of, along_lines}
 
 -- ---- names
 

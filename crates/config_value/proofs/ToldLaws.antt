@@ -17,8 +17,8 @@ use Rattle.config_value.specs.declared.found.Found.TheVariants as found
 use Rattle.config_value.specs.Value.{as_number, sum_of}
 use Rattle.base_laws.specs.Places.{IsAt}
 use Rattle.config_value.specs.BoundsHold.{IsWithinBounds}
-use Rattle.answer_check.proofs.HeldLaws.{IsInRange}
-use Rattle.answer_check.proofs.SumLaws.{IsBetweenNumbers, sum_of_some_between, multiple_between, difference_between}
+use Rattle.config_value.proofs.HeldLaws.{IsInRange}
+use Rattle.config_value.proofs.SumLaws.{IsBetweenNumbers, sum_of_some_between, multiple_between, difference_between}
 
 -- ---- where something is told
 

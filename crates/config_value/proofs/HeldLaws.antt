@@ -17,7 +17,7 @@ use Rattle.config_value.specs.Value.{value_of, links_of, value_at_instance, link
 use Rattle.base_laws.specs.Places.{IsAt}
 use Rattle.config_value.specs.ShapedSentences.{IsBetween, IsInstanceUnder, IsValueOf, HasShape}
 use Rattle.base_laws.proofs.Places.{IsFirstAt, find_place, position_is}
-use Rattle.answer_check.proofs.NarrowingLaws.{IsRangeWithin, IsAttributeWithin, IsPortWithin, attributes_narrow, ports_narrow}
+use Rattle.prod_model.proofs.NarrowingLaws.{IsRangeWithin, IsAttributeWithin, IsPortWithin, attributes_narrow, ports_narrow}
 
 -- where the domain is a range, the value is in it
 abbrev pub IsInRange : Domain → ℤ → Type 0
