@@ -10,7 +10,7 @@ use Rattle.prod_model.specs.declared.expr.Expr.TheViews.{out-Expr, roll-Expr, ro
 use Rattle.prod_model.specs.Nesting.{nesting}
 use Rattle.prod_model.proofs.ExprBoundsLaws.{nesting_Num, nesting_Attr, nesting_Count, nesting_CountOf, nesting_Sum, nesting_Total, nesting_Number, nesting_Add, nesting_Sub, nesting_Times, nesting_Cmp, nesting_Is, nesting_Kind, nesting_And, nesting_Or, nesting_Not, nesting_If, nesting_All, nesting_Any}
 use Rattle.expr_bounds.specs.Parts.{arguments}
-use Rattle.expr_bounds.specs.Arguments.{argument_list, first_place}
+use Rattle.expr_bounds.specs.steps.Arguments.{argument_list, first_place}
 
 -- ---- places
 

@@ -14,9 +14,9 @@ use Rattle.prod_model.specs.ExprBounds.{bounds_at}
 use Rattle.expr_bounds.specs.Parts.{type_of_arguments}
 use Rattle.expr_bounds.specs.Faults.{unknown_names, wrong_attributes, is_truth_form, needs_truths, same_truth}
 use Rattle.expr_bounds.specs.Laws.{BoundedHasNoFault}
-use Rattle.expr_bounds.specs.Search.{levels_below, whole_at, standing_below, whole_if, places, is_too_deep, is_wrong_kind, is_innermost_unbounded, has_bounded_arguments, own_faults, HasFaultAt, own, inner}
-use Rattle.expr_bounds.specs.declared.kind.Kind as kind
-use Rattle.expr_bounds.specs.declared.kind.Kind.TheVariants.{Deep, UnknownName, WrongKind, Wide}
+use Rattle.expr_bounds.specs.steps.Search.{levels_below, whole_at, standing_below, whole_if, places, is_too_deep, is_wrong_kind, is_innermost_unbounded, has_bounded_arguments, own_faults, HasFaultAt, own, inner}
+use Rattle.expr_bounds.specs.declared.fault_kind.FaultKind.{FaultKind}
+use Rattle.expr_bounds.specs.declared.fault_kind.FaultKind.TheVariants.{Deep, UnknownName, WrongKind, Wide}
 use Rattle.expr_bounds.specs.declared.standing.Standing.{Standing}
 use Rattle.expr_bounds.proofs.ArgumentLaws.{nesting_argument, nesting_some}
 use Rattle.expr_bounds.proofs.BoundsLaws.{bounds_at_form}
@@ -55,7 +55,7 @@ not_wide : (o : Option Bounds) (b : Bool) → is_some o ≡ true → ¬ ((is_non
 not_wide None b is wide = false≢true is
 not_wide (Some x) b is wide = false≢true wide
 
-no_own : (m : Model) (k : kind.Kind) → ¬ (k ≡ Deep) → (e : Expr) (t : ℕ) (s : Standing) → s.at ≡ Some t → is_some (bounds_at m e t) ≡ true → is_wrong_kind s.needs_truth (out-Expr e) ≡ false
+no_own : (m : Model) (k : FaultKind) → ¬ (k ≡ Deep) → (e : Expr) (t : ℕ) (s : Standing) → s.at ≡ Some t → is_some (bounds_at m e t) ≡ true → is_wrong_kind s.needs_truth (out-Expr e) ≡ false
     → (path : List ℕ) → ¬ Contains (own_faults m k e s) path
 no_own m Deep shallow e t s at is right path among = shallow refl
 no_own m UnknownName shallow e t s at is right path among =
@@ -71,7 +71,7 @@ no_own m Wide shallow e t s at is right path among =
     let wide : is_innermost_unbounded m e t ≡ true = ap (λ o. option_map_or (is_innermost_unbounded m e) o false) (sym at) ∙ (whole_contained (option_map_or (is_innermost_unbounded m e) s.at false) path among).0 in
     not_wide (bounds_at m e t) (has_bounded_arguments m e t) is wide
 
-no_fault : (m : Model) (k : kind.Kind) → ¬ (k ≡ Deep) → (e : Expr) (t : ℕ) (s : Standing) → s.at ≡ Some t → is_some (bounds_at m e t) ≡ true → is_wrong_kind s.needs_truth (out-Expr e) ≡ false
+no_fault : (m : Model) (k : FaultKind) → ¬ (k ≡ Deep) → (e : Expr) (t : ℕ) (s : Standing) → s.at ≡ Some t → is_some (bounds_at m e t) ≡ true → is_wrong_kind s.needs_truth (out-Expr e) ≡ false
     → (path : List ℕ) → ¬ HasFaultAt m k e s path
 no_fault m k shallow e t s at is right path (own among) = no_own m k shallow e t s at is right path among
 no_fault m k shallow e t s at is right path (inner i arg there {path = rest} has) =
@@ -82,11 +82,11 @@ no_fault m k shallow e t s at is right path (inner i arg there {path = rest} has
 
 -- ---- the law
 
-no_kind : (m : Model) (k : kind.Kind) (e : Expr) (t : ℕ) → is_some (bounds_at m e t) ≡ true → nesting e ≤ most_nesting → (path : List ℕ) → ¬ HasFaultAt m k e (whole_at t) path
+no_kind : (m : Model) (k : FaultKind) (e : Expr) (t : ℕ) → is_some (bounds_at m e t) ≡ true → nesting e ≤ most_nesting → (path : List ℕ) → ¬ HasFaultAt m k e (whole_at t) path
 no_kind m Deep e t is few path has = omega (arith, nests_deep m 16 e (whole_at t) path refl has)
 no_kind m UnknownName e t is few path has = no_fault m UnknownName (λ same. cc) e t (whole_at t) refl is refl path has
 no_kind m WrongKind e t is few path has = no_fault m WrongKind (λ same. cc) e t (whole_at t) refl is refl path has
 no_kind m Wide e t is few path has = no_fault m Wide (λ same. cc) e t (whole_at t) refl is refl path has
 
 pub bounded_has_no_fault : BoundedHasNoFault
-bounded_has_no_fault m e t is few f fault = let here = found m e t f fault in no_kind m here.kind e t is few here.path here.has
+bounded_has_no_fault m e t is few f fault = let here = found m e t f fault in no_kind m here.fault_kind e t is few here.path here.has

@@ -7,9 +7,9 @@ use Rattle.prod_model.specs.declared.expr.Expr.TheOpen.{Expr-F, Num, Attr, Count
 use Rattle.prod_model.specs.declared.expr.Expr.TheViews.{out-Expr, roll-Expr, roll-out-Expr}
 use Rattle.prod_model.specs.declared.expr_bounds.Bounds.TheVariants.{Number as number, Truth as truth}
 use Rattle.prod_model.specs.ExprBounds.{bounds_at, sum_of_all, truth_of}
-use Rattle.expr_bounds.specs.PlusArgument.{sum_with}
+use Rattle.expr_bounds.specs.steps.PlusArgument.{sum_with}
 use Rattle.prod_model.proofs.ExprBoundsLaws.{bounds_at_Num, bounds_at_Attr, bounds_at_Count, bounds_at_CountOf, bounds_at_Sum, bounds_at_Total, bounds_at_Number, bounds_at_Add, bounds_at_Sub, bounds_at_Times, bounds_at_Cmp, bounds_at_Is, bounds_at_Kind, bounds_at_And, bounds_at_Or, bounds_at_Not, bounds_at_If, bounds_at_All, bounds_at_Any}
-use Rattle.expr_bounds.specs.FormBounds.{form_bounds}
+use Rattle.expr_bounds.specs.steps.FormBounds.{form_bounds}
 
 bounds_at_roll : (m : Model) (form : Expr-F Expr) (t : ℕ) → bounds_at m (roll-Expr form) t ≡ form_bounds m form t
 bounds_at_roll m (Num n) t = bounds_at_Num m t n

@@ -3,7 +3,7 @@ use Rattle.std.proofs.Common.{◌≡◌, ℕ, zero, suc, sym, ap, subst, refl, B
 use Rattle.std.proofs.lemmas.Bool.{false≢true}
 use Rattle.std.proofs.lemmas.List.Elements.{Contains-append_left, Contains-append_right, Contains-append_cases}
 use Rattle.expr_bounds.specs.Faults.{place_unless}
-use Rattle.expr_bounds.specs.Search.{whole_if, places}
+use Rattle.expr_bounds.specs.steps.Search.{whole_if, places}
 
 pub contains_one : {X : Type 0} (x : X) → Contains (x ∷ []) x
 contains_one x = (0, omega arith, refl)

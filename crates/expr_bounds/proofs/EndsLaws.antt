@@ -17,9 +17,9 @@ use Rattle.prod_model.specs.Limits.{is_within, farthest_bound}
 use Rattle.prod_model.specs.Forest.{is_type}
 use Rattle.prod_model.specs.Taxonomy.{attribute_of, port_of, first_words}
 use Rattle.prod_model.specs.ExprBounds.{bounds_at, bounded, sum_of_some, sum_of_all, difference, multiple, comparison, truth_of, of_range, is_word_of, has_arguments}
-use Rattle.expr_bounds.specs.Arguments.{argument_list, has_right_count}
+use Rattle.expr_bounds.specs.steps.Arguments.{argument_list, has_right_count}
 use Rattle.expr_bounds.specs.Parts.{type_of_arguments}
-use Rattle.expr_bounds.specs.FormBounds.{form_bounds}
+use Rattle.expr_bounds.specs.steps.FormBounds.{form_bounds}
 use Rattle.expr_bounds.specs.Faults.{place_unless, has_range, has_words, is_known_word, unknown_names, wrong_attributes, needs_truths}
 use Rattle.expr_bounds.specs.Ends.{ends_within, ends_of_range, ends_of_some, ends_of_both, ends_of_all, ends_of_difference, ends_of_multiple, ends_of, is_beyond, is_wide}
 use Rattle.expr_bounds.proofs.FormSound.{kind_of, HasKind, some_kind, one_argument, two_arguments, list_arguments}

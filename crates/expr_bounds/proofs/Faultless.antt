@@ -11,11 +11,11 @@ use Rattle.prod_model.specs.Limits.{most_nesting}
 use Rattle.prod_model.specs.Nesting.{nesting}
 use Rattle.prod_model.specs.Taxonomy.{port_of}
 use Rattle.prod_model.specs.ExprBounds.{bounds_at}
-use Rattle.expr_bounds.specs.Arguments.{argument_list}
+use Rattle.expr_bounds.specs.steps.Arguments.{argument_list}
 use Rattle.expr_bounds.specs.Parts.{type_of_arguments}
 use Rattle.expr_bounds.specs.Faults.{place_unless, unknown_names}
-use Rattle.expr_bounds.specs.Search.{levels_below, whole_at, standing_below, is_too_deep, is_innermost_unbounded, has_bounded_arguments, places, HasFaultAt, own, inner}
-use Rattle.expr_bounds.specs.declared.kind.Kind.TheVariants.{Deep, UnknownName, Wide}
+use Rattle.expr_bounds.specs.steps.Search.{levels_below, whole_at, standing_below, is_too_deep, is_innermost_unbounded, has_bounded_arguments, places, HasFaultAt, own, inner}
+use Rattle.expr_bounds.specs.declared.fault_kind.FaultKind.TheVariants.{Deep, UnknownName, Wide}
 use Rattle.expr_bounds.specs.declared.standing.Standing.{Standing}
 use Rattle.expr_bounds.proofs.ArgumentLaws.{nesting_argument, nesting_within, nesting_some}
 use Rattle.expr_bounds.proofs.Elements.{contains_places, contains_whole, contains_unless}

@@ -11,14 +11,14 @@ use Rattle.prod_model.specs.declared.expr.Expr.{Expr}
 use Rattle.prod_model.specs.declared.expr.Expr.TheViews.{out-Expr}
 use Rattle.prod_model.specs.Limits.{most_nesting}
 use Rattle.prod_model.specs.ExprBounds.{bounds_at}
-use Rattle.expr_bounds.specs.Arguments.{argument_list, first_place}
+use Rattle.expr_bounds.specs.steps.Arguments.{argument_list, first_place}
 use Rattle.expr_bounds.specs.Parts.{IsPart, whole, argument, arguments, type_of_arguments}
 use Rattle.expr_bounds.specs.Ends.{is_wide}
 use Rattle.expr_bounds.specs.Faults.{HasExprFault, deep, unknown_name, wrong_argument, wrong_attribute, wide, unknown_names, wrong_arguments, wrong_attributes, place_unless, same_truth, needs_truths, is_truth_form}
-use Rattle.expr_bounds.specs.Search.{levels_below, whole_at, standing_below, whole_if, places, is_too_deep, is_wrong_kind, has_bounded_arguments, is_innermost_unbounded, own_faults, HasFaultAt, own, inner, fault_of}
+use Rattle.expr_bounds.specs.steps.Search.{levels_below, whole_at, standing_below, whole_if, places, is_too_deep, is_wrong_kind, has_bounded_arguments, is_innermost_unbounded, own_faults, HasFaultAt, own, inner, fault_of}
 use Rattle.expr_bounds.specs.declared.fault.ExprFault.{ExprFault}
-use Rattle.expr_bounds.specs.declared.kind.Kind as kind
-use Rattle.expr_bounds.specs.declared.kind.Kind.TheVariants.{Deep, UnknownName, WrongKind, Wide}
+use Rattle.expr_bounds.specs.declared.fault_kind.FaultKind.{FaultKind}
+use Rattle.expr_bounds.specs.declared.fault_kind.FaultKind.TheVariants.{Deep, UnknownName, WrongKind, Wide}
 use Rattle.expr_bounds.specs.declared.standing.Standing.{Standing}
 use Rattle.expr_bounds.proofs.ArgumentLaws.{argument_index, argument_contained}
 use Rattle.expr_bounds.proofs.BoundsLaws.{bounds_at_form}
@@ -28,10 +28,10 @@ use Rattle.base_laws.proofs.Tests.{list_all_from}
 
 -- the kind of a fault, and its path
 pub record Found (m : Model) (e : Expr) (t : ℕ) (f : ExprFault) : Type 0 where
-  pub kind : kind.Kind
+  pub fault_kind : FaultKind
   pub path : List ℕ
-  pub is : f ≡ fault_of kind path
-  pub has : HasFaultAt m kind e (whole_at t) path
+  pub is : f ≡ fault_of fault_kind path
+  pub has : HasFaultAt m fault_kind e (whole_at t) path
 
 -- ---- each fault is found
 
@@ -101,16 +101,16 @@ module _ (m : Model) (e : Expr) (t : ℕ) where
       subst There (append-nil path) (s.lifts [] (own (contains_whole (option_map_or (is_innermost_unbounded m part) s.standing.at false) (ap (λ at. option_map_or (is_innermost_unbounded m part) at false) s.at ∙ wide))))
 
   pub found : (f : ExprFault) → HasExprFault m e t f → Found m e t f
-  found f (deep path part of is at same) = record { kind = Deep; path = path; is = same; has = find_deep path part of is at }
-  found f (unknown_name path part of is k among same) = record { kind = UnknownName; path = path ++ k ∷ []; is = same; has = find_name path part of is k among }
-  found f (wrong_argument path part of is k among same) = record { kind = WrongKind; path = path ++ k ∷ []; is = same; has = find_argument path part of is k among }
-  found f (wrong_attribute path part of is k among same) = record { kind = WrongKind; path = path ++ k ∷ []; is = same; has = find_attribute path part of is k among }
-  found f (wide path part of is beyond same) = record { kind = Wide; path = path; is = same; has = find_wide path part of is beyond }
+  found f (deep path part of is at same) = record { fault_kind = Deep; path = path; is = same; has = find_deep path part of is at }
+  found f (unknown_name path part of is k among same) = record { fault_kind = UnknownName; path = path ++ k ∷ []; is = same; has = find_name path part of is k among }
+  found f (wrong_argument path part of is k among same) = record { fault_kind = WrongKind; path = path ++ k ∷ []; is = same; has = find_argument path part of is k among }
+  found f (wrong_attribute path part of is k among same) = record { fault_kind = WrongKind; path = path ++ k ∷ []; is = same; has = find_attribute path part of is k among }
+  found f (wide path part of is beyond same) = record { fault_kind = Wide; path = path; is = same; has = find_wide path part of is beyond }
 
   -- ---- what is found is a fault
 
   -- Where a search for wide parts looks, each innermost part without bounds is wide.
-  abbrev pub OnlyWideUnbounded : kind.Kind → Type 0
+  abbrev pub OnlyWideUnbounded : FaultKind → Type 0
   OnlyWideUnbounded k = k ≡ Wide → (path : List ℕ) (part : Expr) (of : ℕ) → IsPart m e t path part (Some of) → is_innermost_unbounded m part of ≡ true → is_wide m (out-Expr part) of ≡ true
 
   -- a part of the wrong kind is to blame on the part around it
@@ -127,7 +127,7 @@ module _ (m : Model) (e : Expr) (t : ℕ) where
       let here = places_contained (wrong_attributes m (out-Expr part) of) rest (subst Among same among) in
       wrong_attribute path part of is here.0 here.1 (ap (λ r. fault_of WrongKind (path ++ r)) (sym here.2))
 
-  own_fault : (k : kind.Kind) → OnlyWideUnbounded k → (path : List ℕ) (part : Expr) (s : Standing) (at : Option ℕ) → s.at ≡ at → IsPart m e t path part at → s.levels ≡ levels_after (length path) → Blames path part s
+  own_fault : (k : FaultKind) → OnlyWideUnbounded k → (path : List ℕ) (part : Expr) (s : Standing) (at : Option ℕ) → s.at ≡ at → IsPart m e t path part at → s.levels ≡ levels_after (length path) → Blames path part s
       → (rest : List ℕ) → Contains (own_faults m k part s) rest → HasExprFault m e t (fault_of k (path ++ rest))
   own_fault Deep widths path part s at same is levels blames rest among =
       let here = whole_contained (is_too_deep s.levels) rest among in
@@ -157,7 +157,7 @@ module _ (m : Model) (e : Expr) (t : ℕ) where
       let Fault : List ℕ → Type 0 = λ p. HasExprFault m e t (fault_of Wide p) in
       subst Fault (sym (append-nil path) ∙ ap (λ r. path ++ r) here.1) (wide path part of is (widths refl path part of is unbounded) refl)
 
-  pub fault : (k : kind.Kind) → OnlyWideUnbounded k → (part : Expr) (s : Standing) (rest : List ℕ) → HasFaultAt m k part s rest
+  pub fault : (k : FaultKind) → OnlyWideUnbounded k → (part : Expr) (s : Standing) (rest : List ℕ) → HasFaultAt m k part s rest
       → (path : List ℕ) → IsPart m e t path part s.at → s.levels ≡ levels_after (length path) → Blames path part s → HasExprFault m e t (fault_of k (path ++ rest))
   fault k widths part s rest (own among) path is levels blames = own_fault k widths path part s s.at refl is levels blames rest among
   fault k widths part s rest (inner i arg found {path = rest'} has) path is levels blames =
@@ -171,5 +171,5 @@ module _ (m : Model) (e : Expr) (t : ℕ) where
       (λ wrong. wrong_argument path part s.at is place (contains_flat (λ (a : ℕ × Expr). place_unless (same_truth (needs_truths (out-Expr part)) (is_truth_form (out-Expr a.1))) a.0)
       (arguments (out-Expr part)) (place, arg) place among (contains_unless (same_truth (needs_truths (out-Expr part)) (is_truth_form (out-Expr arg))) place (same_not (needs_truths (out-Expr part)) (is_truth_form (out-Expr arg)) wrong))) refl))
 
-  pub fault_of_whole : (k : kind.Kind) → OnlyWideUnbounded k → (path : List ℕ) → HasFaultAt m k e (whole_at t) path → HasExprFault m e t (fault_of k path)
+  pub fault_of_whole : (k : FaultKind) → OnlyWideUnbounded k → (path : List ℕ) → HasFaultAt m k e (whole_at t) path → HasExprFault m e t (fault_of k path)
   fault_of_whole k widths path has = fault k widths e (whole_at t) path has [] whole refl (λ wrong. absurd (false≢true wrong))

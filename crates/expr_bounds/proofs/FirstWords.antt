@@ -15,7 +15,7 @@ use Rattle.prod_model.specs.declared.model.AttrAt.{AttrAt}
 use Rattle.prod_model.specs.Names.{same_text}
 use Rattle.prod_model.specs.Forest.{line, is_forest}
 use Rattle.prod_model.specs.Taxonomy.{Named, declarations_of, new_declarations, all_new_declarations, first_id, new_entries, kept_entry, entries_of, made_attribute, attributes_of, attributes_at, attribute_of, words_of, first_words}
-use Rattle.expr_bounds.specs.Parents.{parent_of}
+use Rattle.expr_bounds.specs.steps.Parents.{parent_of}
 use Rattle.base_laws.proofs.Places.{slice_get_middle}
 use Rattle.prod_model.proofs.ForestLines.{HasNoCycle, no_cycle, line_of_parent}
 use Rattle.prod_model.proofs.EntryLaws.{entries_of_parent, all_new_split}

@@ -10,7 +10,7 @@ use Rattle.prod_model.specs.declared.expr.Expr.TheViews.{out-Expr, roll-Expr, ro
 use Rattle.prod_model.specs.declared.expr.Expr.TheFolds.{fold-roll-Expr}
 use Rattle.prod_model.specs.ExprBounds.{has_arguments}
 use Rattle.base_laws.proofs.Tests.{list_all_at}
-use Rattle.expr_bounds.specs.Arguments.{argument_list}
+use Rattle.expr_bounds.specs.steps.Arguments.{argument_list}
 use Rattle.expr_bounds.specs.Forms.{is_form, layer_is_form}
 
 -- there are at most 64 arguments, and each is of the language

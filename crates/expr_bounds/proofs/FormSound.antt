@@ -19,9 +19,9 @@ use Rattle.prod_model.specs.declared.expr.Expr.TheViews.{out-Expr}
 use Rattle.prod_model.specs.Forest.{is_type}
 use Rattle.prod_model.specs.Taxonomy.{attribute_of, port_of, first_words}
 use Rattle.prod_model.specs.ExprBounds.{bounds_at, bounded, sum_of_some, sum_of_all, difference, multiple, comparison, truth_of, of_range, is_word_of, has_arguments}
-use Rattle.expr_bounds.specs.Arguments.{argument_list}
+use Rattle.expr_bounds.specs.steps.Arguments.{argument_list}
 use Rattle.expr_bounds.specs.Parts.{type_of_arguments}
-use Rattle.expr_bounds.specs.FormBounds.{form_bounds}
+use Rattle.expr_bounds.specs.steps.FormBounds.{form_bounds}
 use Rattle.expr_bounds.specs.Faults.{place_unless, has_range, has_words, is_known_word, unknown_names, wrong_attributes, is_truth_form, needs_truths}
 use Rattle.prod_model.proofs.TaxonomyLaws.{no_attributes}
 use Rattle.expr_bounds.proofs.BoundsLaws.{bounds_at_form}

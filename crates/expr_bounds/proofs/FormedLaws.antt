@@ -7,7 +7,7 @@ use Rattle.prod_model.specs.declared.expr.Expr.TheOpen.{Expr-F, Num, Attr, Count
 use Rattle.prod_model.specs.declared.expr.Expr.TheViews.{out-Expr, roll-Expr, roll-out-Expr}
 use Rattle.prod_model.specs.declared.expr.Expr.TheFolds.{fold-roll-Expr}
 use Rattle.prod_model.specs.ExprBounds.{has_arguments}
-use Rattle.expr_bounds.specs.Arguments.{argument_list, has_right_count}
+use Rattle.expr_bounds.specs.steps.Arguments.{argument_list, has_right_count}
 use Rattle.expr_bounds.specs.Forms.{is_form, layer_is_form}
 use Rattle.expr_bounds.proofs.FormLaws.{all_map}
 

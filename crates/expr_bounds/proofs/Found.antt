@@ -6,9 +6,9 @@ use Rattle.prod_model.specs.declared.model.Model.{Model}
 use Rattle.prod_model.specs.declared.expr.Expr.{Expr}
 use Rattle.prod_model.specs.declared.expr.Expr.TheViews.{out-Expr}
 use Rattle.prod_model.specs.First.{IsFirst}
-use Rattle.expr_bounds.specs.Arguments.{argument_list, first_place}
-use Rattle.expr_bounds.specs.Search.{own_faults, standing_below, HasFaultAt, own, inner, IsPathBefore}
-use Rattle.expr_bounds.specs.declared.kind.Kind.{Kind}
+use Rattle.expr_bounds.specs.steps.Arguments.{argument_list, first_place}
+use Rattle.expr_bounds.specs.steps.Search.{own_faults, standing_below, HasFaultAt, own, inner, IsPathBefore}
+use Rattle.expr_bounds.specs.declared.fault_kind.FaultKind.{FaultKind}
 use Rattle.expr_bounds.specs.declared.standing.Standing.{Standing}
 use Rattle.expr_bounds.proofs.PathOrder.{not_before_same, not_before_greater}
 use Rattle.expr_bounds.proofs.OwnOrder.{own_ascend, own_before_inner}
@@ -32,24 +32,24 @@ order_of (suc i) (suc n) = elim (order_of i n) [
   | inr (inr beyond) ↦ inr (inr (omega arith))
 ]
 
-module _ (m : Model) (kind : Kind) (e : Expr) (s : Standing) where
+module _ (m : Model) (fault_kind : FaultKind) (e : Expr) (s : Standing) where
   -- there is no fault in the arguments before this one
   abbrev pub NoneBefore : ℕ → Type 0
-  NoneBefore n = (i : ℕ) (arg : Expr) → i < n → slice_get (argument_list (out-Expr e)) i ≡ Some arg → (path : List ℕ) → ¬ HasFaultAt m kind arg (standing_below m e s) path
+  NoneBefore n = (i : ℕ) (arg : Expr) → i < n → slice_get (argument_list (out-Expr e)) i ≡ Some arg → (path : List ℕ) → ¬ HasFaultAt m fault_kind arg (standing_below m e s) path
 
-  pub finds_none : slice_get (own_faults m kind e s) 0 ≡ None → NoneBefore (length (argument_list (out-Expr e))) → (path : List ℕ) → ¬ HasFaultAt m kind e s path
-  finds_none none before path (own among) = none_first (own_faults m kind e s) path none among
+  pub finds_none : slice_get (own_faults m fault_kind e s) 0 ≡ None → NoneBefore (length (argument_list (out-Expr e))) → (path : List ℕ) → ¬ HasFaultAt m fault_kind e s path
+  finds_none none before path (own among) = none_first (own_faults m fault_kind e s) path none among
   finds_none none before path (inner i arg found {path = rest} has) =
       before i arg (slice_get_within (argument_list (out-Expr e)) i arg found) found rest has
 
-  own_first : (path : List ℕ) → slice_get (own_faults m kind e s) 0 ≡ Some path → (q : List ℕ) → HasFaultAt m kind e s q → ¬ IsPathBefore q path
-  own_first path first q (own among) = own_ascend m kind e s path q first among
+  own_first : (path : List ℕ) → slice_get (own_faults m fault_kind e s) 0 ≡ Some path → (q : List ℕ) → HasFaultAt m fault_kind e s q → ¬ IsPathBefore q path
+  own_first path first q (own among) = own_ascend m fault_kind e s path q first among
   own_first path first q (inner i arg found {path = rest} has) =
-      own_before_inner m kind e s i arg rest path found (first_contained (own_faults m kind e s) path first)
+      own_before_inner m fault_kind e s i arg rest path found (first_contained (own_faults m fault_kind e s) path first)
 
-  pub finds_own : (path : List ℕ) → slice_get (own_faults m kind e s) 0 ≡ Some path → IsFirst (HasFaultAt m kind e s) IsPathBefore path
+  pub finds_own : (path : List ℕ) → slice_get (own_faults m fault_kind e s) 0 ≡ Some path → IsFirst (HasFaultAt m fault_kind e s) IsPathBefore path
   finds_own path first = record {
-    is = own (first_contained (own_faults m kind e s) path first);
+    is = own (first_contained (own_faults m fault_kind e s) path first);
     none_before = own_first path first;
   }
 
@@ -57,26 +57,26 @@ module _ (m : Model) (kind : Kind) (e : Expr) (s : Standing) where
     same_argument : (i : ℕ) (other : Expr) → i ≡ n → slice_get (argument_list (out-Expr e)) i ≡ Some other → other ≡ arg
     same_argument i other is at = let same : Some other ≡ Some arg = sym at ∙ ap (slice_get (argument_list (out-Expr e))) is ∙ found in cc
 
-    pub none_next : ((path : List ℕ) → ¬ HasFaultAt m kind arg (standing_below m e s) path) → NoneBefore (n + 1)
+    pub none_next : ((path : List ℕ) → ¬ HasFaultAt m fault_kind arg (standing_below m e s) path) → NoneBefore (n + 1)
     none_next none i other within at path has = elim (order_of i n) [
       | inl below ↦ before i other below at path has
-      | inr (inl is) ↦ (let Has : Expr → Type 0 = λ x. HasFaultAt m kind x (standing_below m e s) path in none path (subst Has (same_argument i other is at) has))
+      | inr (inl is) ↦ (let Has : Expr → Type 0 = λ x. HasFaultAt m fault_kind x (standing_below m e s) path in none path (subst Has (same_argument i other is at) has))
       | inr (inr beyond) ↦ absurd (omega arith)
     ]
 
-    inner_first : (path : List ℕ) → slice_get (own_faults m kind e s) 0 ≡ None → IsFirst (HasFaultAt m kind arg (standing_below m e s)) IsPathBefore path
-        → (q : List ℕ) → HasFaultAt m kind e s q → ¬ IsPathBefore q ((first_place (out-Expr e) + n) ∷ path)
-    inner_first path none first q (own among) = absurd (none_first (own_faults m kind e s) q none among)
+    inner_first : (path : List ℕ) → slice_get (own_faults m fault_kind e s) 0 ≡ None → IsFirst (HasFaultAt m fault_kind arg (standing_below m e s)) IsPathBefore path
+        → (q : List ℕ) → HasFaultAt m fault_kind e s q → ¬ IsPathBefore q ((first_place (out-Expr e) + n) ∷ path)
+    inner_first path none first q (own among) = absurd (none_first (own_faults m fault_kind e s) q none among)
     inner_first path none first q (inner i other at {path = rest} has) = elim (order_of i n) [
       | inl below ↦ absurd (before i other below at rest has)
-      | inr (inl is) ↦ (let Has : Expr → Type 0 = λ x. HasFaultAt m kind x (standing_below m e s) rest in
+      | inr (inl is) ↦ (let Has : Expr → Type 0 = λ x. HasFaultAt m fault_kind x (standing_below m e s) rest in
           let NotBefore : ℕ → Type 0 = λ k. ¬ IsPathBefore ((first_place (out-Expr e) + k) ∷ rest) ((first_place (out-Expr e) + n) ∷ path) in
           subst NotBefore (sym is) (not_before_same (first_place (out-Expr e) + n) rest path (first.none_before rest (subst Has (same_argument i other is at) has))))
       | inr (inr beyond) ↦ not_before_greater (first_place (out-Expr e) + i) (first_place (out-Expr e) + n) rest path (omega arith)
     ]
 
-    pub finds_inner : (path : List ℕ) → slice_get (own_faults m kind e s) 0 ≡ None → IsFirst (HasFaultAt m kind arg (standing_below m e s)) IsPathBefore path
-        → IsFirst (HasFaultAt m kind e s) IsPathBefore ((first_place (out-Expr e) + n) ∷ path)
+    pub finds_inner : (path : List ℕ) → slice_get (own_faults m fault_kind e s) 0 ≡ None → IsFirst (HasFaultAt m fault_kind arg (standing_below m e s)) IsPathBefore path
+        → IsFirst (HasFaultAt m fault_kind e s) IsPathBefore ((first_place (out-Expr e) + n) ∷ path)
     finds_inner path none first = record {
       is = inner n arg found first.is;
       none_before = inner_first path none first;

@@ -13,11 +13,11 @@ use Rattle.prod_model.specs.declared.expr.Expr.TheOpen.{Expr-F, Num, Attr, Count
 use Rattle.prod_model.specs.declared.expr.Expr.TheViews.{out-Expr}
 use Rattle.prod_model.specs.Forest.{is_type}
 use Rattle.prod_model.specs.Taxonomy.{attribute_of, port_of}
-use Rattle.expr_bounds.specs.Arguments.{argument_list, first_place}
+use Rattle.expr_bounds.specs.steps.Arguments.{argument_list, first_place}
 use Rattle.expr_bounds.specs.Faults.{place_unless, has_range, has_words, attribute_of_target, is_known_word, unknown_names, wrong_attributes}
-use Rattle.expr_bounds.specs.Search.{own_faults, whole_if, places, is_too_deep, is_wrong_kind, is_innermost_unbounded, IsPathBefore}
-use Rattle.expr_bounds.specs.declared.kind.Kind as kind
-use Rattle.expr_bounds.specs.declared.kind.Kind.TheVariants.{Deep, UnknownName, WrongKind, Wide}
+use Rattle.expr_bounds.specs.steps.Search.{own_faults, whole_if, places, is_too_deep, is_wrong_kind, is_innermost_unbounded, IsPathBefore}
+use Rattle.expr_bounds.specs.declared.fault_kind.FaultKind.{FaultKind}
+use Rattle.expr_bounds.specs.declared.fault_kind.FaultKind.TheVariants.{Deep, UnknownName, WrongKind, Wide}
 use Rattle.expr_bounds.specs.declared.standing.Standing.{Standing}
 use Rattle.expr_bounds.proofs.PathOrder.{not_before_whole, before_rest}
 
@@ -116,7 +116,7 @@ least_wrong m (Total u a) t w = least_wrong_two w (option_map_or has_range (attr
 least_wrong m (Is a x) t w = least_wrong_one w (option_map_or has_words (attribute_of m t a) true)
 least_wrong m form t w = least_wrong_none w
 
-least_own_at : (m : Model) (k : kind.Kind) (e : Expr) (s : Standing) (at : Option ℕ) → s.at ≡ at → first_is_least (own_faults m k e s) ≡ true
+least_own_at : (m : Model) (k : FaultKind) (e : Expr) (s : Standing) (at : Option ℕ) → s.at ≡ at → first_is_least (own_faults m k e s) ≡ true
 least_own_at m Deep e s at is = least_whole (is_too_deep s.levels)
 least_own_at m UnknownName e s None is = rw is refl
 least_own_at m UnknownName e s (Some t) is = rw is (least_names m (out-Expr e) t)
@@ -125,7 +125,7 @@ least_own_at m WrongKind e s (Some t) is = rw is (least_wrong m (out-Expr e) t (
 least_own_at m Wide e s at is = least_whole (option_map_or (is_innermost_unbounded m e) s.at false)
 
 -- none of the own faults is before the first of them
-pub own_ascend : (m : Model) (k : kind.Kind) (e : Expr) (s : Standing) (p q : List ℕ) → slice_get (own_faults m k e s) 0 ≡ Some p → Contains (own_faults m k e s) q → ¬ IsPathBefore q p
+pub own_ascend : (m : Model) (k : FaultKind) (e : Expr) (s : Standing) (p q : List ℕ) → slice_get (own_faults m k e s) 0 ≡ Some p → Contains (own_faults m k e s) q → ¬ IsPathBefore q p
 own_ascend m k e s p q first among = first_least (own_faults m k e s) p q (least_own_at m k e s s.at refl) first among
 
 -- ---- own faults come before those of arguments
@@ -170,7 +170,7 @@ early_wrong m (Total u a) t w i arg found = cc
 early_wrong m (Is a x) t w i arg found = cc
 early_wrong m form t w i arg found = early_wrong_none (first_place form) w
 
-early_own : (m : Model) (k : kind.Kind) (e : Expr) (s : Standing) (at : Option ℕ) → s.at ≡ at → (i : ℕ) (arg : Expr) → slice_get (argument_list (out-Expr e)) i ≡ Some arg
+early_own : (m : Model) (k : FaultKind) (e : Expr) (s : Standing) (at : Option ℕ) → s.at ≡ at → (i : ℕ) (arg : Expr) → slice_get (argument_list (out-Expr e)) i ≡ Some arg
     → list_all (is_early (first_place (out-Expr e))) (own_faults m k e s) ≡ true
 early_own m Deep e s at is i arg found = early_whole (first_place (out-Expr e)) (is_too_deep s.levels)
 early_own m UnknownName e s None is i arg found = rw is refl
@@ -186,7 +186,7 @@ not_before_early place j path (k ∷ []) early beyond =
 not_before_early place j path (k ∷ l ∷ q) early beyond = absurd (false≢true early)
 
 -- no fault of an argument is before one of the part's own
-pub own_before_inner : (m : Model) (k : kind.Kind) (e : Expr) (s : Standing) (i : ℕ) (arg : Expr) (path q : List ℕ) → slice_get (argument_list (out-Expr e)) i ≡ Some arg
+pub own_before_inner : (m : Model) (k : FaultKind) (e : Expr) (s : Standing) (i : ℕ) (arg : Expr) (path q : List ℕ) → slice_get (argument_list (out-Expr e)) i ≡ Some arg
     → Contains (own_faults m k e s) q → ¬ IsPathBefore ((first_place (out-Expr e) + i) ∷ path) q
 own_before_inner m k e s i arg path q found among =
     not_before_early (first_place (out-Expr e)) (first_place (out-Expr e) + i) path q

@@ -6,8 +6,8 @@ use Rattle.prod_model.specs.declared.expr.Expr.{Expr}
 use Rattle.prod_model.specs.declared.expr.Expr.TheViews.{out-Expr}
 use Rattle.prod_model.specs.Limits.{most_nesting}
 use Rattle.expr_bounds.specs.Parts.{IsPart, whole, argument, type_of_arguments}
-use Rattle.expr_bounds.specs.Search.{levels_below, whole_at, standing_below, HasFaultAt, inner}
-use Rattle.expr_bounds.specs.declared.kind.Kind as kind
+use Rattle.expr_bounds.specs.steps.Search.{levels_below, whole_at, standing_below, HasFaultAt, inner}
+use Rattle.expr_bounds.specs.declared.fault_kind.FaultKind.{FaultKind}
 use Rattle.expr_bounds.specs.declared.standing.Standing.{Standing}
 use Rattle.expr_bounds.proofs.ArgumentLaws.{argument_index}
 
@@ -42,23 +42,23 @@ length_step path k = omega (arith, length-append path (k ∷ []))
 
 module _ (m : Model) (e : Expr) (t : ℕ) where
   -- how a part stands, so that its faults are faults of the whole
-  pub record Stands (kind : kind.Kind) (path : List ℕ) (part : Expr) (of : Option ℕ) : Type 0 where
+  pub record Stands (fault_kind : FaultKind) (path : List ℕ) (part : Expr) (of : Option ℕ) : Type 0 where
     pub standing : Standing
     pub levels : standing.levels ≡ levels_after (length path)
     pub at : standing.at ≡ of
-    pub lifts : (rest : List ℕ) → HasFaultAt m kind part standing rest → HasFaultAt m kind e (whole_at t) (path ++ rest)
+    pub lifts : (rest : List ℕ) → HasFaultAt m fault_kind part standing rest → HasFaultAt m fault_kind e (whole_at t) (path ++ rest)
 
-  pub stands : (kind : kind.Kind) (path : List ℕ) (part : Expr) (of : Option ℕ) → IsPart m e t path part of → Stands kind path part of
-  stands kind path part of whole = record { standing = whole_at t; levels = refl; at = refl; lifts = λ rest has. has }
-  stands kind path part of (argument path' part' of' is k arg among) =
-      let above = stands kind path' part' of' is in
+  pub stands : (fault_kind : FaultKind) (path : List ℕ) (part : Expr) (of : Option ℕ) → IsPart m e t path part of → Stands fault_kind path part of
+  stands fault_kind path part of whole = record { standing = whole_at t; levels = refl; at = refl; lifts = λ rest has. has }
+  stands fault_kind path part of (argument path' part' of' is k arg among) =
+      let above = stands fault_kind path' part' of' is in
       let at = argument_index (out-Expr part') k arg among in
       record {
         standing = standing_below m part' above.standing;
         levels = ap (option_and_then levels_below) above.levels ∙ ap levels_after (sym (length_step path' k));
         at = ap (type_of_arguments m (out-Expr part')) above.at;
         lifts = λ rest has.
-            let Here : ℕ → Type 0 = λ j. HasFaultAt m kind part' above.standing (j ∷ rest) in
-            let There : List ℕ → Type 0 = λ p. HasFaultAt m kind e (whole_at t) p in
+            let Here : ℕ → Type 0 = λ j. HasFaultAt m fault_kind part' above.standing (j ∷ rest) in
+            let There : List ℕ → Type 0 = λ p. HasFaultAt m fault_kind e (whole_at t) p in
             subst There (sym (append_assoc path' (k ∷ []) rest)) (above.lifts (k ∷ rest) (subst Here (sym at.2) (inner at.0 arg at.1 has)));
       }

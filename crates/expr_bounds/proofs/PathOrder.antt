@@ -2,7 +2,7 @@
 use Rattle.std.proofs.Common.{ℕ, ◌<◌, ◌≤◌, List, [], ◌∷◌, arith}
 use Rattle.std.proofs.lemmas.Bool.{false≢true}
 use Rattle.std.proofs.lemmas.Bool.Decides.{nat_tests}
-use Rattle.expr_bounds.specs.Search.{IsPathBefore}
+use Rattle.expr_bounds.specs.steps.Search.{IsPathBefore}
 
 -- nothing is before the whole
 pub not_before_whole : (p : List ℕ) → ¬ IsPathBefore p []

@@ -8,13 +8,13 @@ use Rattle.prod_model.specs.declared.expr.Expr.{Expr}
 use Rattle.prod_model.specs.declared.expr.Expr.TheViews.{out-Expr}
 use Rattle.prod_model.specs.ExprBounds.{bounds_at}
 use Rattle.base_laws.proofs.Tests.{list_all_at}
-use Rattle.expr_bounds.specs.Arguments.{argument_list, first_place, has_right_count}
+use Rattle.expr_bounds.specs.steps.Arguments.{argument_list, first_place, has_right_count}
 use Rattle.expr_bounds.specs.Ends.{is_wide}
 use Rattle.expr_bounds.specs.Faults.{place_unless, same_truth, needs_truths, is_truth_form, wrong_arguments}
 use Rattle.expr_bounds.specs.Forms.{is_form}
 use Rattle.expr_bounds.specs.Parts.{IsPart, whole, argument, arguments, type_of_arguments}
-use Rattle.expr_bounds.specs.Search.{whole_at, has_bounded_arguments, is_innermost_unbounded, HasFaultAt}
-use Rattle.expr_bounds.specs.declared.kind.Kind.TheVariants.{UnknownName, WrongKind}
+use Rattle.expr_bounds.specs.steps.Search.{whole_at, has_bounded_arguments, is_innermost_unbounded, HasFaultAt}
+use Rattle.expr_bounds.specs.declared.fault_kind.FaultKind.TheVariants.{UnknownName, WrongKind}
 use Rattle.expr_bounds.proofs.ArgumentLaws.{argument_index, argument_contained}
 use Rattle.expr_bounds.proofs.BoundsLaws.{bounds_at_form}
 use Rattle.expr_bounds.proofs.Elements.{contains_flat, contains_unless}

@@ -8,6 +8,8 @@ use Rattle.prod_model.specs.ExprBounds.{bounds_at}
 use Rattle.expr_bounds.specs.declared.fault.ExprFault.{ExprFault}
 use Rattle.expr_bounds.specs.Faults.{HasExprFault}
 
--- An expression that has bounds at a type and doesn't nest too deep has no fault there.
+-- An expression that has bounds at a type and nests at most 16 deep has no fault there.
 abbrev pub BoundedHasNoFault : Type 0
-BoundedHasNoFault = (m : Model) (e : Expr) (t : ℕ) → IsTrue (is_some (bounds_at m e t)) → nesting e ≤ most_nesting → (f : ExprFault) → ¬ HasExprFault m e t f
+BoundedHasNoFault =
+    (m : Model) (e : Expr) (t : ℕ) → IsTrue (is_some (bounds_at m e t)) → nesting e ≤ most_nesting
+    → (f : ExprFault) → ¬ HasExprFault m e t f

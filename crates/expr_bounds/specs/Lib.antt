@@ -2,10 +2,5 @@ pub mod Forms
 pub mod Parts
 pub mod Ends
 pub mod Faults
-pub mod Arguments
-pub mod FormBounds
 pub mod Laws
-pub mod PlusArgument
-pub mod Sample
-pub mod Search
-pub mod Parents
+pub mod steps

@@ -10,7 +10,8 @@ use Rattle.prod_model.specs.declared.expr.Expr.TheOpen.{Expr-F, Num, Attr, Count
 use Rattle.prod_model.specs.declared.expr.Expr.TheViews.{out-Expr}
 use Rattle.prod_model.specs.Taxonomy.{port_of}
 
--- The argument expressions of a form, each with its place in the array form. The operator stands at 0.
+-- The argument expressions of a form, each with its place in the array form. The operator stands
+-- at 0.
 abbrev pub arguments : Expr-F Expr → List (ℕ × Expr)
 arguments (Num n) = []
 arguments (Attr a) = []
@@ -32,15 +33,17 @@ arguments (If e f) = (1, e) ∷ (2, f) ∷ []
 arguments (All p e) = (2, e) ∷ []
 arguments (Any p e) = (2, e) ∷ []
 
--- The type at which the arguments of a form at a type stand: for `all` and `any` the port's target, else the same.
--- None where the form's own type isn't known, or it has no such port.
+-- The type at which the arguments of a form at a type stand: for `all` and `any` the port's target,
+-- else the same. None where the form's own type isn't known, or it has no such port.
 abbrev pub type_of_arguments : Model → Expr-F Expr → Option ℕ → Option ℕ
-type_of_arguments m (All p e) t = option_map (λ q. q.target) (option_and_then (λ u. port_of m u p) t)
-type_of_arguments m (Any p e) t = option_map (λ q. q.target) (option_and_then (λ u. port_of m u p) t)
+type_of_arguments m (All p e) t =
+    option_map (λ q. q.target) (option_and_then (λ u. port_of m u p) t)
+type_of_arguments m (Any p e) t =
+    option_map (λ q. q.target) (option_and_then (λ u. port_of m u p) t)
 type_of_arguments m form t = t
 
--- The expression that stands at type t has a part at a path, which stands at a type: itself, or an argument of such a part.
--- A part is at depth 1 more than the length of its path.
+-- The expression that stands at type t has a part at a path, which stands at a type: itself, or an
+-- argument of such a part. A part is at depth 1 more than the length of its path.
 pub data IsPart (m : Model) (e : Expr) (t : ℕ) : List ℕ → Expr → Option ℕ → Type 0 where
   whole : IsPart m e t [] e (Some t)
   argument : (path : List ℕ) (part : Expr) (of : Option ℕ) → IsPart m e t path part of

@@ -7,7 +7,7 @@ ghost use Rattle.prod_model.specs.Limits.{most_arguments};
 ghost use Rattle.prod_model.specs.Taxonomy.{tables_of, attribute_of as attribute_at, port_of as port_at};
 ghost use Rattle.prod_model.specs.ExprBounds.{bounds_at, sum_of_all as sum_of_list, sum_of_some as sum_between, of_range, truth_of, has_arguments};
 ghost use Rattle.prod_model.specs.Valid.{IsDeclared};
-ghost use Rattle.expr_bounds.specs.FormBounds.{form_bounds as bounds_of_form};
+ghost use Rattle.expr_bounds.specs.steps.FormBounds.{form_bounds as bounds_of_form};
 
 use crate::first_words::has_word;
 use crate::interval::{
@@ -17,8 +17,8 @@ use crate::interval::{
 use crate::lookup::{attribute_of, is_type, port_of};
 use prod_model::{Bounds, Boxed, Expr, Items, Model, Tables};
 
-/// What an expression is at a type, and nothing where it has a fault there other than its nesting. The steps are as many as
-/// the expression has parts, times a look through the row of a type.
+/// What an expression is at a type, and nothing where it has a fault there other than its nesting.
+/// The steps are as many as the expression has parts, times a look through the row of a type.
 #[tactic(auto, using(crate::proofs::BoundsLaws::form_laws))]
 pub(crate) fn bounds(model: &Model, tables: &Tables, expr: &Expr, at: u32) -> Option<Bounds>
     requires declared { IsDeclared model.now }
@@ -77,7 +77,8 @@ fn form_bounds(model: &Model, tables: &Tables, form: &Expr, at: u32) -> Option<B
 /// How many links a port of a type has.
 fn links(model: &Model, tables: &Tables, at: u32, p: u32) -> Option<Bounds>
     requires { tables.now ≡ tables_of model.now }
-    ensures { result ≡ option_map (λ q. Bounds.Number (pos q.low) (pos q.high)) (port_at model.now at p) }
+    ensures { result ≡ option_map (λ q. Bounds.Number (pos q.low) (pos q.high))
+        (port_at model.now at p) }
 {
     let port = port_of(model, tables, at, p)?;
     Some(between(port.low, port.high))
@@ -87,7 +88,8 @@ fn links(model: &Model, tables: &Tables, at: u32, p: u32) -> Option<Bounds>
 fn links_under(model: &Model, tables: &Tables, at: u32, p: u32, kind: u32) -> Option<Bounds>
     requires { tables.now ≡ tables_of model.now }
     ensures { result ≡ (if is_type_of model.now kind
-        then option_map (λ q. Bounds.Number (pos 0) (pos q.high)) (port_at model.now at p) else None) }
+        then option_map (λ q. Bounds.Number (pos 0) (pos q.high)) (port_at model.now at p)
+        else None) }
 {
     let port = port_of(model, tables, at, p)?;
     only_if(is_type(model, kind), between(0, port.high))
@@ -144,7 +146,8 @@ fn all_truths(model: &Model, tables: &Tables, args: &[Expr], at: u32) -> Option<
 
 /// A list of arguments that has at least one member and at most 64.
 fn few(args: &Items<Expr>) -> Option<&[Expr]>
-    ensures value { option_copied result ≡ (if has_arguments args.now then Some args.now else None) }
+    ensures value { option_copied result ≡ (if has_arguments args.now
+        then Some args.now else None) }
     ensures few { IfSome result (λ s. length s.now ≤ most_arguments) }
 {
     if args.is_empty() || args.len() > 64 {

@@ -3,12 +3,13 @@ ghost use Rattle.std.specs.Prelude.{◌≡◌, length};
 ghost use Rattle.prod_model.specs.Taxonomy.{tables_of, first_words, attribute_of as attribute_at, words_of};
 ghost use Rattle.prod_model.specs.Valid.{IsDeclared};
 ghost use Rattle.prod_model.specs.ExprBounds.{is_word_of};
-ghost use Rattle.expr_bounds.specs.Parents.{parent_of as parent_at};
+ghost use Rattle.expr_bounds.specs.steps.Parents.{parent_of as parent_at};
 
 use crate::lookup::attribute_of;
 use prod_model::{AttrAt, Domain, Model, Tables};
 
-/// Whether an attribute of a type has words, and this is one of its first declaration, also where the type narrows it away.
+/// Whether an attribute of a type has words, and this is one of its first declaration, also where
+/// the type narrows it away.
 pub(crate) fn has_word(
     model: &Model,
     tables: &Tables,
@@ -27,8 +28,8 @@ pub(crate) fn has_word(
     }
 }
 
-/// How many words the first declaration of a type's attribute has. The first type on the way up whose parent has not the
-/// attribute has it as it was declared first.
+/// How many words the first declaration of a type's attribute has. The first type on the way up
+/// whose parent has not the attribute has it as it was declared first.
 fn first_word_count(model: &Model, tables: &Tables, at: u32, attribute: &AttrAt) -> usize
     requires declared { IsDeclared model.now }
     requires tables { tables.now ≡ tables_of model.now }

@@ -1,7 +1,7 @@
 //! The argument expressions of a form, and whether it is a truth.
 ghost use Rattle.std.specs.Prelude.{◌≡◌, ◌<◌, length, slice_get};
 ghost use Rattle.prod_model.specs.declared.expr.Expr.TheViews.{out-Expr};
-ghost use Rattle.expr_bounds.specs.Arguments.{argument_list, first_place};
+ghost use Rattle.expr_bounds.specs.steps.Arguments.{argument_list, first_place};
 ghost use Rattle.expr_bounds.specs.Faults.{is_truth_form, needs_truths};
 
 use prod_model::Expr;

@@ -3,7 +3,7 @@ ghost use Rattle.std.specs.Prelude.{◌≡◌, ◌∷◌, [], pos, neg_ℤ, ◌+
 ghost use Rattle.std.specs.Int.{int_min, int_max};
 ghost use Rattle.prod_model.specs.ExprBounds.{bounded as bounded_of, sum_of_some as sum_of, of_range, difference as difference_of, multiple as multiple_of, comparison, truth_of};
 ghost use Rattle.std.specs.Option.{option_map};
-ghost use Rattle.expr_bounds.specs.PlusArgument.{sum_with};
+ghost use Rattle.expr_bounds.specs.steps.PlusArgument.{sum_with};
 
 use prod_model::{AttrAt, Bounds, Domain};
 use std::cmp::{max, min};

@@ -3,13 +3,12 @@
 
 mod bounds;
 mod fault;
+mod fault_kind;
 mod first_words;
 mod form;
 mod formed;
 mod interval;
 mod judge;
-mod kind;
-mod kinds;
 pub mod laws;
 mod lookup;
 mod names;
@@ -20,6 +19,7 @@ mod search;
 mod standing;
 #[cfg(test)]
 mod tests;
+mod wrong_attributes;
 
 pub use fault::ExprFault;
 pub use form::is_truth;

@@ -52,7 +52,8 @@ fn unless(known: bool, place: u32) -> Option<u32>
     if known { None } else { Some(place) }
 }
 
-/// Whether an attribute of a type has the word, also where the type narrows it away. It is not tested of a range.
+/// Whether an attribute of a type has the word, also where the type narrows it away. It is not
+/// tested of a range.
 fn is_known(model: &Model, tables: &Tables, at: u32, attribute: &AttrAt, word: u32) -> bool
     requires declared { IsDeclared model.now }
     requires tables { tables.now ≡ tables_of model.now }

@@ -5,15 +5,15 @@ ghost use Rattle.std.specs.Option.{option_map, option_map_or};
 ghost use Rattle.prod_model.specs.declared.expr.Expr.TheViews.{out-Expr};
 ghost use Rattle.prod_model.specs.Taxonomy.{tables_of};
 ghost use Rattle.prod_model.specs.Valid.{IsDeclared};
-ghost use Rattle.expr_bounds.specs.Search.{own_faults, whole_if, places, is_too_deep, is_wrong_kind as is_wrong_kind_of, is_innermost_unbounded, has_bounded_arguments as has_bounded};
+ghost use Rattle.expr_bounds.specs.steps.Search.{own_faults, whole_if, places, is_too_deep, is_wrong_kind as is_wrong_kind_of, is_innermost_unbounded, has_bounded_arguments as has_bounded};
 ghost use Rattle.expr_bounds.specs.Faults.{unknown_names, wrong_attributes};
 
 use crate::bounds::bounds;
+use crate::fault_kind::FaultKind;
 use crate::form::{argument, argument_count, is_truth};
-use crate::kind::Kind;
-use crate::kinds::wrong_attribute;
 use crate::names::unknown_name;
 use crate::standing::{Standing, type_of_arguments};
+use crate::wrong_attributes::wrong_attribute;
 use prod_model::{Expr, Items, Model, Tables};
 use std::alloc::{AllocError, Global};
 
@@ -22,24 +22,25 @@ pub(crate) fn own_fault(
     alloc: Global,
     model: &Model,
     tables: &Tables,
-    kind: Kind,
+    fault_kind: FaultKind,
     part: &Expr,
     standing: Standing,
 ) -> Result<Option<Items<u32>>, AllocError>
     requires declared { IsDeclared model.now }
     requires tables { tables.now ≡ tables_of model.now }
-    ensures { IfOk result (λ own. own ≡ slice_get (own_faults model.now kind part.now standing) 0) }
+    ensures { IfOk result (λ own. own ≡ slice_get
+        (own_faults model.now fault_kind part.now standing) 0) }
 {
-    match kind {
-        Kind::Deep => Ok(whole(alloc, is_deep(standing.levels))),
-        Kind::UnknownName => name(alloc, unknown(model, tables, part, standing.at)),
-        Kind::WrongKind => {
+    match fault_kind {
+        FaultKind::Deep => Ok(whole(alloc, is_deep(standing.levels))),
+        FaultKind::UnknownName => name(alloc, unknown(model, tables, part, standing.at)),
+        FaultKind::WrongKind => {
             if is_wrong_kind(part, standing.needs_truth) {
                 return Ok(Some(Items::new(alloc)));
             }
             name(alloc, wrong(model, tables, part, standing.at))
         }
-        Kind::Wide => Ok(whole(alloc, is_wide(model, tables, part, standing.at))),
+        FaultKind::Wide => Ok(whole(alloc, is_wide(model, tables, part, standing.at))),
     }
 }
 
@@ -72,14 +73,16 @@ fn is_deep(levels: Option<u32>) -> bool
 fn unknown(model: &Model, tables: &Tables, part: &Expr, at: Option<u32>) -> Option<u32>
     requires declared { IsDeclared model.now }
     requires tables { tables.now ≡ tables_of model.now }
-    ensures { result ≡ slice_get (option_map_or (unknown_names model.now (out-Expr part.now)) at []) 0 }
+    ensures { result ≡ slice_get
+        (option_map_or (unknown_names model.now (out-Expr part.now)) at []) 0 }
 {
     unknown_name(model, tables, part, at?)
 }
 
 fn wrong(model: &Model, tables: &Tables, part: &Expr, at: Option<u32>) -> Option<u32>
     requires { tables.now ≡ tables_of model.now }
-    ensures { result ≡ slice_get (option_map_or (wrong_attributes model.now (out-Expr part.now)) at []) 0 }
+    ensures { result ≡ slice_get
+        (option_map_or (wrong_attributes model.now (out-Expr part.now)) at []) 0 }
 {
     wrong_attribute(model, tables, part, at?)
 }
@@ -93,7 +96,8 @@ fn is_wrong_kind(part: &Expr, needs_truth: Option<bool>) -> bool
     }
 }
 
-/// Whether the part has no bounds, and all its arguments have. It is wide, if no name is unknown and no kind is wrong.
+/// Whether the part has no bounds, and all its arguments have. It is wide, if no name is unknown
+/// and no kind is wrong.
 fn is_wide(model: &Model, tables: &Tables, part: &Expr, at: Option<u32>) -> bool
     requires declared { IsDeclared model.now }
     requires tables { tables.now ≡ tables_of model.now }

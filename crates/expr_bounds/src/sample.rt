@@ -2,7 +2,7 @@
 ghost use Rattle.std.specs.Prelude.{◌≡◌, ◌≤◌, ◌∷◌, [], length, pos, neg_ℤ, IfOk};
 ghost use Rattle.prod_model.specs.Taxonomy.{tables_of};
 ghost use Rattle.prod_model.specs.Valid.{IsDeclared};
-ghost use Rattle.expr_bounds.specs.Sample.{range as range_decl, colour as colour_decl, colours as colour_words, blue_only, slot as slot_decl, box as box_decl, card as card_decl, blue as blue_decl, sample, sample_tables, range_at, colour_at, slot_at};
+ghost use Rattle.expr_bounds.specs.steps.Sample.{range as range_decl, colour as colour_decl, colours as colour_words, blue_only, slot as slot_decl, box as box_decl, card as card_decl, blue as blue_decl, sample, sample_tables, range_at, colour_at, slot_at};
 
 use prod_model::{
     AttrAt, AttrDecl, Domain, Items, Model, Name, PortAt, PortDecl, PortKind, Tables, TypeDecl,

@@ -4,7 +4,7 @@ ghost use Rattle.std.specs.Option.{option_and_then};
 ghost use Rattle.prod_model.specs.declared.expr.Expr.TheViews.{out-Expr};
 ghost use Rattle.prod_model.specs.Taxonomy.{tables_of};
 ghost use Rattle.expr_bounds.specs.Parts.{type_of_arguments as type_below};
-ghost use Rattle.expr_bounds.specs.Search.{levels_below, whole_at, standing_below};
+ghost use Rattle.expr_bounds.specs.steps.Search.{levels_below, whole_at, standing_below};
 
 use crate::form::takes_truths;
 use crate::lookup::port_of;
@@ -13,7 +13,8 @@ use prod_model::{Expr, Model, Tables};
 /// Where a part of an expression stands.
 #[derive(Clone, Copy)]
 pub(crate) struct Standing {
-    /// How many levels are left for the part and what is in it. There are none below the first part that is too deep.
+    /// How many levels are left for the part and what is in it. There are none below the first part
+    /// that is too deep.
     pub(crate) levels: Option<u32>,
     /// The type, unless a port on the way to the part is not known.
     pub(crate) at: Option<u32>,
@@ -53,7 +54,8 @@ fn fewer(levels: Option<u32>) -> Option<u32>
     if levels == 0 { None } else { Some(levels - 1) }
 }
 
-/// The type at which the arguments of a form at a type stand: the port's target for `all` and `any`, else the same.
+/// The type at which the arguments of a form at a type stand: the port's target for `all` and
+/// `any`, else the same.
 pub(crate) fn type_of_arguments(
     model: &Model,
     tables: &Tables,

@@ -2,7 +2,7 @@ use Rattle.std.proofs.Common.{◌≡◌, ◌<◌, arith, ◌∙◌, sym, ap, len
 use Rattle.std.specs.Option.{option_and_then}
 use Rattle.prod_model.specs.Forest.{line}
 use Rattle.prod_model.specs.Taxonomy.{first_words, attribute_of as attribute_at}
-use Rattle.expr_bounds.specs.Parents.{parent_of as parent_at}
+use Rattle.expr_bounds.specs.steps.Parents.{parent_of as parent_at}
 use Rattle.expr_bounds.proofs.FirstWords.{first_words_of_new, line_of_parent_shorter, attribute_of_same_id, find_id}
 use Rattle.expr_bounds.proofs.first_words.+first_word_count.Goals as goal
 

@@ -2,7 +2,7 @@ use Rattle.std.proofs.Common.{◌≡◌, ◌∙◌, ◌<◌, sym, ap, false, tru
 use Rattle.std.specs.List.{list_all}
 use Rattle.prod_model.specs.declared.expr.Expr.TheViews.{out-Expr}
 use Rattle.prod_model.specs.Nesting.{nesting}
-use Rattle.expr_bounds.specs.Arguments.{argument_list, has_right_count}
+use Rattle.expr_bounds.specs.steps.Arguments.{argument_list, has_right_count}
 use Rattle.expr_bounds.specs.Forms.{is_form}
 use Rattle.expr_bounds.proofs.ArgumentLaws.{nesting_argument}
 use Rattle.expr_bounds.proofs.FormedLaws.{is_form_form}

@@ -2,7 +2,7 @@ use Rattle.std.proofs.Common.{◌≡◌, drop}
 use Rattle.std.specs.List.{list_all}
 use Rattle.prod_model.specs.declared.expr.Expr.TheViews.{out-Expr}
 use Rattle.prod_model.specs.Nesting.{nesting}
-use Rattle.expr_bounds.specs.Arguments.{argument_list}
+use Rattle.expr_bounds.specs.steps.Arguments.{argument_list}
 use Rattle.expr_bounds.specs.Forms.{is_form}
 use Rattle.expr_bounds.proofs.formed.+is_formed.Given as goal
 

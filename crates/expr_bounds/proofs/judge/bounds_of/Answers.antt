@@ -2,7 +2,7 @@ use Rattle.std.proofs.Common.{◌≡◌, ◌∙◌, sym, ap, None, rules}
 use Rattle.std.specs.Prelude.{is_some}
 use Rattle.std.proofs.lemmas.Bool.{false≢true}
 use Rattle.prod_model.specs.ExprBounds.{bounds_at}
-use Rattle.expr_bounds.specs.declared.kind.Kind.TheVariants.{Deep, UnknownName, WrongKind, Wide}
+use Rattle.expr_bounds.specs.declared.fault_kind.FaultKind.TheVariants.{Deep, UnknownName, WrongKind, Wide}
 use Rattle.expr_bounds.proofs.Faultless.{nesting_faultless, bounded_faultless}
 use Rattle.expr_bounds.proofs.FirstFault.{faults_of_kind, none_before_deep, none_before_name, none_before_kind, none_before_wide}
 use Rattle.expr_bounds.proofs.judge.bounds_of.Goals as goal

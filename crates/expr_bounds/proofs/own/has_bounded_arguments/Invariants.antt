@@ -4,8 +4,8 @@ use Rattle.std.specs.Option.{option_map_or}
 use Rattle.std.specs.List.{list_all}
 use Rattle.prod_model.specs.declared.expr.Expr.TheViews.{out-Expr}
 use Rattle.prod_model.specs.ExprBounds.{bounds_at}
-use Rattle.expr_bounds.specs.Arguments.{argument_list}
-use Rattle.expr_bounds.specs.Search.{has_bounded_arguments}
+use Rattle.expr_bounds.specs.steps.Arguments.{argument_list}
+use Rattle.expr_bounds.specs.steps.Search.{has_bounded_arguments}
 use Rattle.expr_bounds.proofs.own.has_bounded_arguments.Given as goal
 
 -- whether the rest have bounds is whether all have

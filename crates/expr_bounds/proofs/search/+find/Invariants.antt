@@ -8,4 +8,4 @@ decreases-find l = nesting l.part.now
 
 -- the arguments before this one have no fault
 abbrev pub invariant-loop-index : goal.invariant-loop-index
-invariant-loop-index l = NoneBefore l.model l.kind l.part l.fn.standing l.index
+invariant-loop-index l = NoneBefore l.model l.fault_kind l.part l.fn.standing l.index

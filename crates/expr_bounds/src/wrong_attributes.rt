@@ -28,7 +28,8 @@ pub(crate) fn wrong_attribute(model: &Model, tables: &Tables, form: &Expr, at: u
 
 /// The place, provided that the attribute there has words.
 fn place_of_words(attribute: Option<&AttrAt>, place: u32) -> Option<u32>
-    ensures { result ≡ slice_get (place_unless (option_map_or has_range_in (option_copied attribute.entry) true) place) 0 }
+    ensures { result ≡ slice_get
+        (place_unless (option_map_or has_range_in (option_copied attribute.entry) true) place) 0 }
 {
     if has_range(attribute?) {
         None
@@ -39,7 +40,8 @@ fn place_of_words(attribute: Option<&AttrAt>, place: u32) -> Option<u32>
 
 /// The place, provided that the attribute there has a range.
 fn place_of_range(attribute: Option<&AttrAt>, place: u32) -> Option<u32>
-    ensures { result ≡ slice_get (place_unless (option_map_or has_words_in (option_copied attribute.entry) true) place) 0 }
+    ensures { result ≡ slice_get
+        (place_unless (option_map_or has_words_in (option_copied attribute.entry) true) place) 0 }
 {
     if has_range(attribute?) {
         Some(place)

@@ -1,5 +1,5 @@
--- The small model that the tests are about: 0 Box, 1 Card, 2 Blue under Box. Attributes 0 width and 1 colour of Box, 2 power and
--- 3 loss of Card. Port 0 slot of Box.
+-- The small model that the tests are about: 0 Box, 1 Card, 2 Blue under Box. Attributes 0 width and
+-- 1 colour of Box, 2 power and 3 loss of Card. Port 0 slot of Box.
 use Rattle.std.specs.Prelude.{ℕ, ℤ, pos, neg_ℤ, List, [], ◌∷◌, codes, Some, None}
 use Rattle.prod_model.specs.declared.model.Model.{Model}
 use Rattle.prod_model.specs.declared.model.Tables.{Tables}
@@ -28,18 +28,31 @@ abbrev pub colour : List (List ℕ) → AttrDecl
 colour words = record { name = codes "colour"; domain = Words words }
 
 abbrev pub box : TypeDecl
-box = record { name = codes "Box"; parent = None; attributes = range (codes "width") (neg_ℤ (pos 4)) (pos 1000000) ∷ colour colours ∷ []; ports = slot 2 3 ∷ [] }
+box = record {
+  name = codes "Box";
+  parent = None;
+  attributes = range (codes "width") (neg_ℤ (pos 4)) (pos 1000000) ∷ colour colours ∷ [];
+  ports = slot 2 3 ∷ [];
+}
 
 abbrev pub card : TypeDecl
 card = record {
   name = codes "Card";
   parent = None;
-  attributes = range (codes "power") (neg_ℤ (pos 5)) (pos 7) ∷ range (codes "loss") (neg_ℤ (pos 9)) (neg_ℤ (pos 3)) ∷ [];
+  attributes =
+      range (codes "power") (neg_ℤ (pos 5)) (pos 7)
+      ∷ range (codes "loss") (neg_ℤ (pos 9)) (neg_ℤ (pos 3))
+      ∷ [];
   ports = [];
 }
 
 abbrev pub blue : TypeDecl
-blue = record { name = codes "Blue"; parent = Some 0; attributes = colour blue_only ∷ []; ports = slot 2 2 ∷ [] }
+blue = record {
+  name = codes "Blue";
+  parent = Some 0;
+  attributes = colour blue_only ∷ [];
+  ports = slot 2 2 ∷ [];
+}
 
 abbrev pub sample : Model
 sample = record { root = 0; instances = 5; types = box ∷ card ∷ blue ∷ []; bounds = []; rules = [] }

@@ -1,0 +1,6 @@
+pub mod Arguments
+pub mod FormBounds
+pub mod Parents
+pub mod PlusArgument
+pub mod Sample
+pub mod Search
