@@ -3,6 +3,8 @@ pub mod NameLaws
 pub mod ForestLines
 pub mod EntryLaws
 pub mod ValidModels
+pub mod Rows
+pub mod FirstWords
 mod Examples
 pub mod ExprBoundsLaws
 pub mod Forms

@@ -1,6 +1,7 @@
 -- The forest of types.
 use Rattle.std.specs.Prelude.{ℕ, zero, suc, Bool, false, not, ◌&&◌, ◌==◌, nat_lt, List, [], ◌∷◌, length, drop, slice_get}
-use Rattle.std.specs.Option.{option_map_or}
+use Rattle.std.specs.declared.option.Option.{Option}
+use Rattle.std.specs.Option.{option_map_or, option_and_then}
 use Rattle.std.specs.List.{list_any, list_all, range_with_len}
 use Rattle.prod_model.specs.declared.model.Model.{Model}
 use Rattle.prod_model.specs.declared.model.TypeDecl.{TypeDecl}
@@ -28,6 +29,10 @@ ancestors types t = drop 1 (line types t)
 -- t is u, or u is an ancestor of t
 unfoldable pub is_a : Model → ℕ → ℕ → Bool
 is_a m t u = list_any (λ v. v == u) (line m.types t)
+
+-- the parent of a type, if it has one, and nothing where t is no type
+abbrev pub parent_of : Model → ℕ → Option ℕ
+parent_of m t = option_and_then (λ d. d.parent) (slice_get m.types t)
 
 -- a type that no type has as its parent
 unfoldable pub is_leaf : Model → ℕ → Bool

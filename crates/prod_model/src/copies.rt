@@ -22,7 +22,7 @@ impl<T: Copies> Copies for Items<T> {
     }
 }
 
-fn copy_slice<T: Copies>(alloc: Global, items: &[T]) -> Result<Items<T>, AllocError>
+pub(crate) fn copy_slice<T: Copies>(alloc: Global, items: &[T]) -> Result<Items<T>, AllocError>
     ensures { IfOk result (λ c. c ≡ items.now) }
 {
     let mut copies = Items::new(alloc);
@@ -46,13 +46,7 @@ impl Copies for Expr {
 
 impl Copies for Domain {
     fn copy(&self, alloc: Global) -> Result<Domain, AllocError> {
-        match self {
-            Domain::Range { low, high } => Ok(Domain::Range {
-                low: *low,
-                high: *high,
-            }),
-            Domain::Words(words) => Ok(Domain::Words(words.copy(alloc)?)),
-        }
+        Domain::copy(self, alloc)
     }
 }
 

@@ -15,9 +15,10 @@ pub enum Relation {
     Greater,
 }
 
-/// An expression, whose value is asked at an instance: a whole number or a truth. Attributes and ports stand by their
-/// ids, types by their numbers. In a valid model each number that a part of it can give lies within -10^15 to 10^15.
-/// It nests at most 16 deep, and its lists have 1 to 64 arguments.
+/// An expression, whose value is asked at an instance: a whole number or a truth. Attributes and
+/// ports stand by their ids, types by their numbers. In a valid model each number that a part of it
+/// can give lies within -10^15 to 10^15. It nests at most 16 deep, and its lists have 1 to 64
+/// arguments.
 #[derive(Drop)]
 pub enum Expr {
     /// This number.
@@ -42,8 +43,8 @@ pub enum Expr {
     Times(i64, Boxed<Expr>),
     /// Whether the first number is so related to the second.
     Cmp(Relation, Boxed<Expr>, Boxed<Expr>),
-    /// Whether the instance has a word as its value of an attribute: the attribute and the value of the word, which is
-    /// its place, from 0, in the attribute's first declaration.
+    /// Whether the instance has a word as its value of an attribute: the attribute and the value of
+    /// the word, which is its place, from 0, in the attribute's first declaration.
     Is(u32, u32),
     /// Whether the instance is under a type.
     Kind(u32),

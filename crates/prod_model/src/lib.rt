@@ -4,10 +4,12 @@
 mod copies;
 mod expr;
 mod expr_bounds;
+pub mod limits;
 mod model;
 mod name;
 mod problem;
 mod same;
+mod tables;
 #[cfg(test)]
 mod tests;
 mod type_masks;

@@ -1,9 +1,12 @@
 //! The declarations of a model and of an order, and the tables of a model.
 //!
-//! Types, attributes and ports are named by numbers, each a place counted from 0 in file order. A type's number counts
-//! the types. An attribute's id counts the attributes that are new in their type, over all types; a port's id likewise
-//! counts ports. The ranges that the comments give are those of a valid model.
+//! Types, attributes and ports are named by numbers, each a place counted from 0 in file order. A
+//! type's number counts the types. An attribute's id counts the attributes that are new in their
+//! type, over all types; a port's id likewise counts ports. The ranges that the comments give are
+//! those of a valid model.
 ghost use Rattle.std.specs.Prelude.{◌≡◌, ◌↔◌, IsTrue, IfOk};
+ghost use Rattle.prod_model.specs.Forest.{is_type as is_type_of, parent_of as parent_at};
+ghost use Rattle.prod_model.specs.Taxonomy.{words_of};
 
 use crate::copies::Copies;
 use crate::expr::Expr;
@@ -17,8 +20,34 @@ use std::alloc::{AllocError, Global};
 pub enum Domain {
     /// The whole numbers from `low` to `high`, both within -1,000,000 to 1,000,000 and in order.
     Range { low: i64, high: i64 },
-    /// 1 to 64 distinct words. The value of a word is its place, from 0, in the attribute's first declaration.
+    /// 1 to 64 distinct words. The value of a word is its place, from 0, in the attribute's first
+    /// declaration.
     Words(Items<Name>),
+}
+
+impl Domain {
+    /// The words, and none where it is a range.
+    pub fn words(&self) -> &[Name]
+        ensures { result.now ≡ words_of self.now }
+    {
+        match self {
+            Domain::Range { .. } => &[],
+            Domain::Words(words) => words.as_slice(),
+        }
+    }
+
+    /// The same domain in memory of its own. `AllocError` where memory runs out.
+    pub fn copy(&self, alloc: Global) -> Result<Domain, AllocError>
+        ensures { IfOk result (λ d. d ≡ self.now) }
+    {
+        match self {
+            Domain::Range { low, high } => Ok(Domain::Range {
+                low: *low,
+                high: *high,
+            }),
+            Domain::Words(words) => Ok(Domain::Words(words.copy(alloc)?)),
+        }
+    }
 }
 
 /// How a port's links take up the instances that they lead to.
@@ -30,14 +59,16 @@ pub enum PortKind {
     Shared,
 }
 
-/// A declaration in a type. It is new there, or narrows the inherited attribute of its name, and keeps its id.
+/// A declaration in a type. It is new there, or narrows the inherited attribute of its name, and
+/// keeps its id.
 #[derive(Drop)]
 pub struct AttrDecl {
     pub name: Name,
     pub domain: Domain,
 }
 
-/// A declaration in a type. It is new there, or narrows the inherited port of its name, and keeps its id.
+/// A declaration in a type. It is new there, or narrows the inherited port of its name, and keeps
+/// its id.
 #[derive(Drop)]
 pub struct PortDecl {
     pub name: Name,
@@ -96,6 +127,22 @@ pub struct Model {
     pub rules: Items<Rule>,
 }
 
+impl Model {
+    /// Whether it is the number of one of the types.
+    pub fn is_type(&self, t: u32) -> bool
+        ensures { result ≡ is_type_of self.now t }
+    {
+        (t as usize) < self.types.len()
+    }
+
+    /// The number of the parent of type `t`. Nothing where it has none, or where `t` is no type.
+    pub fn parent_of(&self, t: u32) -> Option<u32>
+        ensures { result ≡ parent_at self.now t }
+    {
+        self.types.get(t as usize)?.parent
+    }
+}
+
 /// What is asked of the root product.
 #[derive(Drop)]
 pub struct Request {
@@ -150,7 +197,8 @@ pub struct AttrAt {
     pub domain: Domain,
 }
 
-/// A port of a type, inherited or its own, as the type or the nearest ancestor that has it declares it.
+/// A port of a type, inherited or its own, as the type or the nearest ancestor that has it declares
+/// it.
 #[derive(Clone, Copy, Debug, PartialEq, Eq)]
 pub struct PortAt {
     pub id: u32,
@@ -163,8 +211,8 @@ pub struct PortAt {
     pub high: u32,
 }
 
-/// The attributes and ports of each type, inherited ones first. Row t is that of the type of number t, at most 32
-/// attributes or 16 ports.
+/// The attributes and ports of each type, inherited ones first. Row t is that of the type of number
+/// t, at most 32 attributes or 16 ports.
 #[derive(Drop)]
 pub struct Tables {
     pub attributes: Items<Items<AttrAt>>,

@@ -1,11 +1,14 @@
 //! Names and words.
 ghost use Rattle.std.specs.Prelude.{◌≡◌, ◌<◌, ◌≤◌, length, IfOk};
 
+use crate::copies::copy_slice;
+use sqlite_items::Items;
 use std::alloc::{AllocError, Global};
 use std::marker::Model;
 
-/// A name or a word, seen as the list of its bytes. In a valid model it has 1 to 32 bytes. A name is an ASCII letter and
-/// then letters, digits, `_` or `-`. A word is any letters, digits, `_`, `-` or `.`.
+/// A name or a word, seen as the list of its bytes. In a valid model it has 1 to 32 bytes. A name
+/// is an ASCII letter and then letters, digits, `_` or `-`. A word is any letters, digits, `_`, `-`
+/// or `.`.
 #[derive(Debug, Drop)]
 pub struct Name {
     text: Vec<u8>,
@@ -43,5 +46,12 @@ impl Name {
     {
         let text = Vec::from_slice(alloc, self.text.as_slice())?;
         Ok(Name { text })
+    }
+
+    /// Names of the same bytes, in the same order. `AllocError` where memory runs out.
+    pub fn copy_all(alloc: Global, names: &[Name]) -> Result<Items<Name>, AllocError>
+        ensures { IfOk result (λ c. c ≡ names.now) }
+    {
+        copy_slice(alloc, names)
     }
 }

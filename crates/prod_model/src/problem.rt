@@ -1,21 +1,24 @@
 //! A valid model and the questions about its types.
-ghost use Rattle.std.specs.Prelude.{◌≡◌, ◌↔◌, IsTrue, IfOk, ℕ, ◌<◌, length, slice_index_or, [], if◌then◌else◌, ◌&&◌};
+ghost use Rattle.std.specs.Prelude.{◌≡◌, ◌↔◌, IsTrue, IsSome, IfOk, ℕ, ◌<◌, length, slice_index_or, [], if◌then◌else◌, ◌&&◌};
 ghost use Rattle.std.specs.Int.{bit_at};
 ghost use Rattle.prod_model.specs.Forest.{is_a, is_leaf};
 ghost use Rattle.prod_model.specs.Valid.{IsValid};
-ghost use Rattle.prod_model.specs.Taxonomy.{tables_of, attributes_at, ports_at};
+ghost use Rattle.prod_model.specs.Taxonomy.{tables_of, attributes_at, ports_at, attribute_of as attribute_at, port_of as port_at, first_words as words_at};
+ghost use Rattle.std.specs.Option.{option_copied};
 ghost use Rattle.prod_model.specs.TypeMasks.{IsMask};
 
 use crate::copies::Copies;
 use crate::model::{self, AttrAt, PortAt, Tables};
+use crate::name::Name;
 use crate::same::Same;
 use crate::type_masks::TypeMasks;
 use sqlite_items::Items;
 use std::alloc::{AllocError, Global};
 use std::marker::Model;
 
-/// A valid model with what is computed from it once: the attributes and ports of each type, and masks of its types.
-/// Contracts see it as the model. Types are numbers, which count them from 0 in file order.
+/// A valid model with what is computed from it once: the attributes and ports of each type, and
+/// masks of its types. Contracts see it as the model. Types are numbers, which count them from 0 in
+/// file order.
 #[derive(Drop)]
 pub struct Problem {
     model: model::Model,
@@ -39,7 +42,8 @@ impl Model for Problem {
 }
 
 impl Problem {
-    /// The problem of a valid model and its tables. The masks are computed here, so that no later call walks the forest.
+    /// The problem of a valid model and its tables. The masks are computed here, so that no later
+    /// call walks the forest.
     pub fn from_parts(model: model::Model, tables: Tables) -> Problem
         requires valid { IsValid model }
         requires tables { tables ≡ tables_of model }
@@ -90,8 +94,8 @@ impl Problem {
         self.masks.leaves_under(t)
     }
 
-    /// The attributes of type `t`: those of its parent in the parent's order, each narrowed as `t` declares, and then
-    /// its new ones in file order.
+    /// The attributes of type `t`: those of its parent in the parent's order, each narrowed as `t`
+    /// declares, and then its new ones in file order.
     #[tactic(auto, using(crate::proofs::TaxonomyLaws::length_attributes, crate::proofs::TaxonomyLaws::attributes_row))]
     pub fn attrs_of(&self, t: u32) -> &[AttrAt]
         requires { t < length self.now.types }
@@ -107,6 +111,29 @@ impl Problem {
         ensures { result.now ≡ ports_at self.now t }
     {
         row_at(&self.tables.ports, t)
+    }
+
+    /// The attribute that type `t` has under the id. A number that is no type has nothing.
+    pub fn attribute_of(&self, t: u32, id: u32) -> Option<&AttrAt>
+        ensures { option_copied result ≡ attribute_at self.now t id }
+    {
+        self.tables.attribute_of(&self.model, t, id)
+    }
+
+    /// The port that type `t` has under the id. A number that is no type has nothing.
+    pub fn port_of(&self, t: u32, id: u32) -> Option<&PortAt>
+        ensures { option_copied result ≡ port_at self.now t id }
+    {
+        self.tables.port_of(&self.model, t, id)
+    }
+
+    /// The words of the first declaration of an attribute that type `t` has, and none where it is
+    /// a range. The value of a word is its place in them.
+    pub fn first_words(&self, t: u32, id: u32) -> &[Name]
+        requires { IsSome (attribute_at self.now t id) }
+        ensures { result.now ≡ words_at self.now id }
+    {
+        self.tables.first_words(&self.model, t, id)
     }
 
     /// Whether the two have the same model. The tables and masks follow from it.

@@ -1,8 +1,9 @@
-//! What no clause says: that calls succeed, and the masks and comparisons of small data worked out by hand.
+//! What no clause says: that calls succeed, and the masks and comparisons of small data worked out
+//! by hand.
 ghost use Rattle.std.specs.Prelude.{◌≡◌, ◌≤◌, length, IfOk, codes, [], ◌∷◌};
 
 use crate::expr::{Expr, Relation};
-use crate::model::{Criterion, Model, Order, Request, Tables, TypeDecl};
+use crate::model::{Criterion, Domain, Model, Order, Request, Tables, TypeDecl};
 use crate::name::Name;
 use crate::problem::Problem;
 use crate::type_masks::TypeMasks;
@@ -53,7 +54,8 @@ fn finds_what_is_under_a_type(rt: HostRuntime) -> Result<(), Fail> {
 
 /// One type, of no attributes and ports.
 fn one_type(alloc: Global) -> Result<Items<TypeDecl>, AllocError>
-    ensures { IfOk result (λ types. types ≡ record { name = codes "Type"; parent = None; attributes = []; ports = [] } ∷ []) }
+    ensures { IfOk result (λ types. types
+        ≡ record { name = codes "Type"; parent = None; attributes = []; ports = [] } ∷ []) }
 {
     let mut types = Items::new(alloc);
     types.push(TypeDecl {
@@ -98,9 +100,31 @@ fn answers_about_one_type(rt: HostRuntime) -> Result<(), Fail> {
     assert_eq!(rt; problem.leaves_under(0), 1);
     assert_eq!(rt; problem.attrs_of(0).len(), 0);
     assert_eq!(rt; problem.ports_of(0).len(), 0);
+    assert!(rt; problem.attribute_of(0, 0).is_none());
+    assert!(rt; problem.port_of(0, 0).is_none());
+    assert!(rt; problem.model().is_type(0) && !problem.model().is_type(1));
+    assert!(rt; problem.model().parent_of(0).is_none());
     let copied = problem.copy(alloc)?;
     assert!(rt; problem.same(&copied));
     assert_eq!(rt; copied.model().types.len(), 1);
+    Ok(())
+}
+
+#[test]
+fn copies_words(rt: HostRuntime) -> Result<(), Fail> {
+    let alloc = rt.alloc();
+    let mut words = Items::new(alloc);
+    words.push(Name::from_bytes(alloc, b"red")?)?;
+    words.push(Name::from_bytes(alloc, b"blue")?)?;
+    let copied = Domain::Words(words).copy(alloc)?;
+    let again = Name::copy_all(alloc, copied.words())?;
+    let mut text = Vec::new(alloc);
+    for word in again.as_slice() {
+        text.extend_from_slice(word.bytes())?;
+        text.push(b' ')?;
+    }
+    assert_eq!(rt; text.as_slice(), b"red blue ".as_slice());
+    assert_eq!(rt; Domain::Range { low: 0, high: 9 }.words().len(), 0);
     Ok(())
 }
 

@@ -8,8 +8,9 @@ ghost use Rattle.prod_model.specs.Valid.{IsValid};
 
 use crate::model::{Model, TypeDecl};
 
-/// Which types are under which, and which are leaves. A bit for each pair of types takes 2 KiB, and a question is then
-/// one test of a bit, where a walk would pass through up to 128 types. Making it walks the line of each type once.
+/// Which types are under which, and which are leaves. A bit for each pair of types takes 2 KiB, and
+/// a question is then one test of a bit, where a walk would pass through up to 128 types. Making it
+/// walks the line of each type once.
 #[derive(Clone, Copy)]
 pub(crate) struct TypeMasks {
     /// Bit t of the mask at u: t is u, or u is an ancestor of t.
@@ -28,12 +29,15 @@ impl TypeMasks {
         TypeMasks::of_types(model.types.as_slice())
     }
 
-    /// The masks of a list of types, of which no more is asked here than that parents are places in a mask.
+    /// The masks of a list of types, of which no more is asked here than that parents are places in
+    /// a mask.
     pub(crate) fn of_types(types: &[TypeDecl]) -> TypeMasks
         requires few { length types.now ≤ 128 }
         requires known { IsTrue (has_small_parents types.now) }
-        ensures under { (u : ℕ) → IsMask (slice_index result.under u) (λ t. is_on (line types.now t) u) }
-        ensures leaves { IsMask result.leaves (λ t. nat_lt t (length types.now) && has_no_child types.now t) }
+        ensures under { (u : ℕ)
+            → IsMask (slice_index result.under u) (λ t. is_on (line types.now t) u) }
+        ensures leaves { IsMask result.leaves
+            (λ t. nat_lt t (length types.now) && has_no_child types.now t) }
     {
         TypeMasks {
             under: types_under(types),
