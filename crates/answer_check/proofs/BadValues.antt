@@ -14,7 +14,7 @@ use Rattle.config_value.specs.Spelled.{is_spelled}
 use Rattle.base_laws.proofs.Tests.{list_all_at}
 use Rattle.config_value.proofs.ShapedParts.{is_built, is_built_at}
 use Rattle.answer_check.specs.Breaks.{too_many, other_root, bad_value, no_instance, off_target, bad_number, shared_part, misnumbered, bad_count, false_rule}
-use Rattle.answer_check.specs.Finds.{BreaksAt}
+use Rattle.answer_check.specs.steps.Finds.{BreaksAt}
 
 -- an instance of a spelled configuration has a leaf type, and lists as long as the type asks
 pub built : (m : Model) (c : List Instance) (i : ℕ) (x : Instance) → IsTrue (is_spelled m c) → slice_get c i ≡ Some x → IsBuilt m x

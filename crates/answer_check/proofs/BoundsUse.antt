@@ -14,7 +14,7 @@ use Rattle.prod_model.specs.Limits.{is_within, farthest_bound}
 use Rattle.prod_model.specs.ExprBounds.{bounded, sum_of_all, difference, multiple, comparison, truth_of, of_range}
 use Rattle.config_value.specs.declared.found.Found.TheVariants as found
 use Rattle.config_value.specs.BoundsHold.{IsWithinBounds}
-use Rattle.answer_check.specs.Evaluable.{IsSmall}
+use Rattle.answer_check.specs.steps.Evaluable.{IsSmall}
 
 -- ---- bounds lie within the limits
 

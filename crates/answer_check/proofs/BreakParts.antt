@@ -11,7 +11,7 @@ use Rattle.config_value.specs.Value.{under, is_under, is_true_at}
 use Rattle.config_value.specs.Shaped.{part_links}
 use Rattle.config_value.specs.Numbered.{is_in_turn}
 use Rattle.answer_check.specs.Breaks.{Has, most_part_links, too_many, other_root, bad_value, no_instance, off_target, bad_number, shared_part, misnumbered, bad_count, false_rule}
-use Rattle.answer_check.specs.Finds.{BreaksAt}
+use Rattle.answer_check.specs.steps.Finds.{BreaksAt}
 
 module _ (m : Model) (c : List Instance) (code i k : ℕ) where
   pub too_many_parts : code ≡ 1 → BreaksAt m c code i k → (i ≡ m.instances) × (k ≡ 0) × (m.instances < length c)

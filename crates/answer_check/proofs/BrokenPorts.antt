@@ -13,8 +13,8 @@ use Rattle.base_laws.proofs.Tests.{list_any_at, list_any_from, option_map_or_at,
 use Rattle.answer_check.specs.declared.links.PortTest.{PortTest}
 use Rattle.answer_check.specs.declared.links.PortTest.TheVariants.{Leads, OnTarget, Number}
 use Rattle.answer_check.specs.Breaks.{Breaks, HasPort, too_many, other_root, bad_value, no_instance, off_target, bad_number, shared_part, misnumbered, bad_count, false_rule}
-use Rattle.answer_check.specs.Finds.{BreaksAt, FindsItem}
-use Rattle.answer_check.specs.PortTests.{code_of, is_off, breaks_port}
+use Rattle.answer_check.specs.steps.Finds.{BreaksAt, FindsItem}
+use Rattle.answer_check.specs.steps.PortTests.{code_of, is_off, breaks_port}
 use Rattle.answer_check.proofs.Items.{Passes, finds_position, finds_same}
 use Rattle.answer_check.proofs.FewItems.{few_ports}
 use Rattle.base_laws.proofs.Lists.{slice_get_zip}

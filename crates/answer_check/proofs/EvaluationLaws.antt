@@ -20,7 +20,7 @@ use Rattle.config_value.specs.Value.{value_at, links_at_instance}
 use Rattle.config_value.proofs.ShapedSentences.{shaped_sentences}
 use Rattle.config_value.proofs.ValueLaws.{value_at_Num, value_at_Attr, value_at_Count, value_at_CountOf, value_at_Sum, value_at_Total, value_at_Number, value_at_Add, value_at_Sub, value_at_Times, value_at_Cmp, value_at_Is, value_at_Kind, value_at_And, value_at_Or, value_at_Not, value_at_If, value_at_All, value_at_Any}
 use Rattle.answer_check.specs.Faultless.{HasBoundsAt}
-use Rattle.answer_check.specs.Evaluable.{form_value, IsSmall, IsEvaluable, HasBoundsAtEach}
+use Rattle.answer_check.specs.steps.Evaluable.{form_value, IsSmall, IsEvaluable, HasBoundsAtEach}
 use Rattle.config_value.proofs.BoundsLaws.{bounds_hold}
 use Rattle.config_value.proofs.HeldLaws.{held_links}
 use Rattle.config_value.proofs.ToldLaws.{and_then_some, if_some}

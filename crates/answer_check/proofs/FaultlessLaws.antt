@@ -22,7 +22,7 @@ use Rattle.config_value.specs.Value.{under, is_under, is_true_at}
 use Rattle.base_laws.proofs.Tests.{list_all_at}
 use Rattle.config_value.proofs.ShapedSentences.{shaped_sentences}
 use Rattle.answer_check.specs.Breaks.{false_rule}
-use Rattle.answer_check.specs.Finds.{BreaksAt}
+use Rattle.answer_check.specs.steps.Finds.{BreaksAt}
 use Rattle.answer_check.proofs.BreakParts.{false_rule_parts}
 use Rattle.answer_check.specs.Faultless.{HasBoundsAt}
 

@@ -7,7 +7,7 @@ use Rattle.config_value.specs.declared.configuration.Instance.{Instance}
 use Rattle.answer_check.specs.declared.place.Place.{Place}
 use Rattle.answer_check.specs.declared.verdict.Verdict.TheVariants.{Broken}
 use Rattle.answer_check.specs.Breaks.{Break, Breaks, IsBreakBefore, IsFirstBreak, too_many, other_root, bad_value, no_instance, off_target, bad_number, shared_part, misnumbered, bad_count, false_rule}
-use Rattle.answer_check.specs.Finds.{BreaksAt, FindsPlace, HasNoBreakBelow, FindsBreakBelow}
+use Rattle.answer_check.specs.steps.Finds.{BreaksAt, FindsPlace, HasNoBreakBelow, FindsBreakBelow}
 
 -- ---- the order of breaks
 

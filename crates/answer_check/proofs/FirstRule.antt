@@ -8,8 +8,8 @@ use Rattle.config_value.specs.declared.configuration.Instance.{Instance}
 use Rattle.config_value.specs.Value.{is_under, is_true_at}
 use Rattle.answer_check.specs.declared.instance_set.InstanceSet.{InstanceSet}
 use Rattle.answer_check.specs.declared.place.Place.{Place}
-use Rattle.answer_check.specs.Finds.{BreaksAt, FindsItem, FindsPlace}
-use Rattle.answer_check.specs.InstanceSets.{is_member}
+use Rattle.answer_check.specs.steps.Finds.{BreaksAt, FindsItem, FindsPlace}
+use Rattle.answer_check.specs.steps.InstanceSets.{is_member}
 use Rattle.answer_check.proofs.FaultlessLaws.{rule_broken, rule_broken_parts}
 use Rattle.answer_check.proofs.Items.{finds_same}
 

@@ -5,7 +5,7 @@ use Rattle.std.specs.List.{position, position_or_len}
 use Rattle.std.proofs.lemmas.Option.{same_Some, none-some, slice_get_within, slice_get-get_or, get_or_from_slice_get}
 use Rattle.std.proofs.lemmas.List.Quantifiers.{position-Some}
 use Rattle.std.proofs.lemmas.Bool.{lt-ltb, cases_lt}
-use Rattle.answer_check.specs.Finds.{FindsItem, FindsPlace}
+use Rattle.answer_check.specs.steps.Finds.{FindsItem, FindsPlace}
 
 -- ---- by `position`
 

@@ -14,7 +14,7 @@ use Rattle.config_value.specs.Value.{links_of, links_at_instance}
 use Rattle.base_laws.proofs.Tests.{list_all_at}
 use lib.Pointwise.{pointwise}
 use Rattle.answer_check.specs.declared.instance_set.InstanceSet.{InstanceSet}
-use Rattle.answer_check.specs.InstanceSets.{is_member, with_instance}
+use Rattle.answer_check.specs.steps.InstanceSets.{is_member, with_instance}
 use Rattle.answer_check.proofs.MemberLaws.{member_fold, any_range_next}
 
 -- all links are below 64

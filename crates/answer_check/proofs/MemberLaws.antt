@@ -7,8 +7,8 @@ use Rattle.std.proofs.lemmas.Nat.Bits.{bit_at_or, bit_at_and, bit_at_xor, bit_at
 use Rattle.std.proofs.lemmas.Bool.{cases_eq, cases_Bool, and_right, false≢true}
 use Rattle.std.proofs.lemmas.Bool.Decides.{nat_tests}
 use Rattle.answer_check.specs.declared.instance_set.InstanceSet.{InstanceSet}
-use Rattle.answer_check.specs.Finds.{FindsItem}
-use Rattle.answer_check.specs.InstanceSets.{is_member, with_instance}
+use Rattle.answer_check.specs.steps.Finds.{FindsItem}
+use Rattle.answer_check.specs.steps.InstanceSets.{is_member, with_instance}
 use Rattle.base_laws.proofs.Masks64.{bit_at_with}
 
 -- a bit that is 1

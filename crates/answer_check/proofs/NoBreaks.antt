@@ -22,7 +22,7 @@ use Rattle.config_value.proofs.ShapedParts.{PassesEach, passes_each, is_shaped_f
 use Rattle.answer_check.specs.declared.verdict.Verdict.{Verdict}
 use Rattle.answer_check.specs.declared.verdict.Verdict.TheVariants.{Satisfied, Broken}
 use Rattle.answer_check.specs.Breaks.{Break, Breaks, HasPort, Tells, most_part_links, too_many, other_root, bad_value, no_instance, off_target, bad_number, shared_part, misnumbered, bad_count, false_rule}
-use Rattle.answer_check.specs.Finds.{HasNoBreakBelow}
+use Rattle.answer_check.specs.steps.Finds.{HasNoBreakBelow}
 use Rattle.answer_check.proofs.BadValues.{built}
 
 -- ---- tests that fail

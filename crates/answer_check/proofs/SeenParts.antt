@@ -14,7 +14,7 @@ use Rattle.config_value.specs.declared.configuration.Instance.{Instance}
 use Rattle.config_value.specs.Shaped.{is_part, part_links}
 use Rattle.answer_check.specs.declared.parts.Seen.{Seen}
 use Rattle.answer_check.specs.Breaks.{most_part_links}
-use Rattle.answer_check.specs.Seen.{nothing_seen, seen_after_link, seen_after_port, seen_after_instance, seen_in, is_overfull}
+use Rattle.answer_check.specs.steps.Seen.{nothing_seen, seen_after_link, seen_after_port, seen_after_instance, seen_in, is_overfull}
 use Rattle.base_laws.proofs.Masks64.{bit_at_with, bit_at_with_both}
 
 -- ---- the links of part ports, port by port and instance by instance, are all part links

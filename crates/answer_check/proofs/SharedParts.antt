@@ -3,8 +3,8 @@ use Rattle.std.proofs.Common.{◌≡◌, ℕ, ◌<◌, ◌∙◌, sym, true, fal
 use Rattle.prod_model.specs.declared.model.Model.{Model}
 use Rattle.config_value.specs.declared.configuration.Instance.{Instance}
 use Rattle.answer_check.specs.Breaks.{shared_part}
-use Rattle.answer_check.specs.Finds.{BreaksAt, FindsItem}
-use Rattle.answer_check.specs.Seen.{seen_in, is_overfull}
+use Rattle.answer_check.specs.steps.Finds.{BreaksAt, FindsItem}
+use Rattle.answer_check.specs.steps.Seen.{seen_in, is_overfull}
 use Rattle.answer_check.proofs.BreakParts.{shared_part_parts}
 use Rattle.answer_check.proofs.SeenParts.{overfull}
 

@@ -10,7 +10,7 @@ use Rattle.prod_model.specs.Valid.{IsValid}
 use Rattle.config_value.specs.declared.configuration.Instance.{Instance}
 use Rattle.config_value.specs.Value.{under, is_under}
 use Rattle.answer_check.specs.Breaks.{too_many, other_root, bad_count}
-use Rattle.answer_check.specs.Finds.{BreaksAt, FindsItem, FindsPlace}
+use Rattle.answer_check.specs.steps.Finds.{BreaksAt, FindsItem, FindsPlace}
 use Rattle.answer_check.proofs.BreakParts.{too_many_parts, other_root_parts, bad_count_parts}
 use Rattle.answer_check.proofs.Items.{Passes, finds_position, finds_same}
 use Rattle.answer_check.proofs.FewItems.{few_bounds}

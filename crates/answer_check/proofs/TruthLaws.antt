@@ -15,9 +15,9 @@ use Rattle.config_value.specs.Value.{is_true_at, links_at_instance}
 use Rattle.base_laws.proofs.Ranges.{slice_get_range_with_len}
 use Rattle.base_laws.proofs.Tests.{list_any_at, list_any_from}
 use Rattle.answer_check.specs.declared.instance_set.InstanceSet.{InstanceSet}
-use Rattle.answer_check.specs.Finds.{FindsItem}
-use Rattle.answer_check.specs.Evaluable.{HasBoundsAtEach}
-use Rattle.answer_check.specs.InstanceSets.{is_member, HasBoundsAmong, AreTrueAmong}
+use Rattle.answer_check.specs.steps.Finds.{FindsItem}
+use Rattle.answer_check.specs.steps.Evaluable.{HasBoundsAtEach}
+use Rattle.answer_check.specs.steps.InstanceSets.{is_member, HasBoundsAmong, AreTrueAmong}
 
 -- ---- tests
 

@@ -15,8 +15,8 @@ use Rattle.config_value.specs.declared.configuration.Instance.{Instance}
 use Rattle.config_value.specs.Numbered.{Link, all_links, is_in_turn}
 use Rattle.answer_check.specs.declared.turns.Turns.{Turns}
 use Rattle.answer_check.specs.Breaks.{misnumbered}
-use Rattle.answer_check.specs.Finds.{BreaksAt, FindsItem}
-use Rattle.answer_check.specs.Turns.{no_turns, comes_in_turn, turns_after_link, turns_after_port, turns_after_instance, turns_in}
+use Rattle.answer_check.specs.steps.Finds.{BreaksAt, FindsItem}
+use Rattle.answer_check.specs.steps.Turns.{no_turns, comes_in_turn, turns_after_link, turns_after_port, turns_after_instance, turns_in}
 use Rattle.answer_check.proofs.BreakParts.{misnumbered_parts}
 use Rattle.base_laws.proofs.Steps.{fold_next}
 use Rattle.config_value.proofs.LinkPushed.{is_mentioned, in_turn_of, mentioned_pushed, in_turn_pushed, in_turn_mentioned}

@@ -1,9 +1,4 @@
 pub mod Breaks
-pub mod Finds
-pub mod PortTests
-pub mod Seen
-pub mod Turns
 pub mod Faultless
-pub mod Evaluable
-pub mod InstanceSets
 pub mod Requested
+pub mod steps

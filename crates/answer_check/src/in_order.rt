@@ -5,7 +5,7 @@ ghost use Rattle.config_value.specs.Satisfies.{satisfies};
 ghost use Rattle.config_value.specs.Spelled.{is_spelled};
 ghost use Rattle.answer_check.specs.declared.verdict.Verdict.TheVariants.{Satisfied, Broken};
 ghost use Rattle.answer_check.specs.Breaks.{Tells};
-ghost use Rattle.answer_check.specs.Finds.{FindsBreakBelow};
+ghost use Rattle.answer_check.specs.steps.Finds.{FindsBreakBelow};
 
 use crate::links::{PortTest, broken_port};
 use crate::parts::shared_part;

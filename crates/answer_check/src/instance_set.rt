@@ -1,7 +1,7 @@
 //! Sets of instances of a configuration.
 ghost use Rattle.std.specs.Prelude.{◌≡◌, ℕ, ◌<◌, ◌==◌, ◌&&◌, ◌||◌, not, false, nat_lt, IsTrue};
-ghost use Rattle.answer_check.specs.Finds.{FindsItem};
-ghost use Rattle.answer_check.specs.InstanceSets.{is_member, with_instance};
+ghost use Rattle.answer_check.specs.steps.Finds.{FindsItem};
+ghost use Rattle.answer_check.specs.steps.InstanceSets.{is_member, with_instance};
 
 use crate::masks::{bit, first_bit, has_bit};
 

@@ -4,7 +4,7 @@ ghost use Rattle.std.specs.List.{fold, list_all, list_any};
 ghost use Rattle.prod_model.specs.Valid.{IsValid};
 ghost use Rattle.config_value.specs.Shaped.{is_shaped, instance_numbers};
 ghost use Rattle.config_value.specs.Value.{links_at_instance};
-ghost use Rattle.answer_check.specs.InstanceSets.{is_member, with_instance};
+ghost use Rattle.answer_check.specs.steps.InstanceSets.{is_member, with_instance};
 
 use crate::instance_set::InstanceSet;
 use crate::instances::links_at;

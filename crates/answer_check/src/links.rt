@@ -5,8 +5,8 @@ ghost use Rattle.prod_model.specs.Taxonomy.{ports_at};
 ghost use Rattle.prod_model.specs.Limits.{is_between};
 ghost use Rattle.prod_model.specs.Valid.{IsValid};
 ghost use Rattle.config_value.specs.Spelled.{is_spelled};
-ghost use Rattle.answer_check.specs.Finds.{BreaksAt, FindsItem, FindsPlace};
-ghost use Rattle.answer_check.specs.PortTests.{code_of, breaks_port, is_off};
+ghost use Rattle.answer_check.specs.steps.Finds.{BreaksAt, FindsItem, FindsPlace};
+ghost use Rattle.answer_check.specs.steps.PortTests.{code_of, breaks_port, is_off};
 
 use crate::place::Place;
 use crate::types::{is_under, ports_of};

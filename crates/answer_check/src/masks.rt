@@ -1,7 +1,7 @@
 //! Masks of instances, in which bit j stands for instance j.
 ghost use Rattle.std.specs.Prelude.{◌≡◌, ◌<◌, ◌==◌, ◌^◌, IsTrue};
 ghost use Rattle.std.specs.Int.{bit_at};
-ghost use Rattle.answer_check.specs.Finds.{FindsItem};
+ghost use Rattle.answer_check.specs.steps.Finds.{FindsItem};
 
 /// The mask of one instance.
 #[tactic(auto, using(base_laws::proofs::Masks64::one_bit))]

@@ -4,8 +4,8 @@ ghost use Rattle.std.specs.List.{fold, zip};
 ghost use Rattle.prod_model.specs.Taxonomy.{ports_at};
 ghost use Rattle.config_value.specs.Shaped.{is_part as is_part_of};
 ghost use Rattle.config_value.specs.Spelled.{is_spelled};
-ghost use Rattle.answer_check.specs.Finds.{BreaksAt, FindsPlace};
-ghost use Rattle.answer_check.specs.Seen.{seen_after_link, seen_after_port, seen_after_instance, seen_in as seen_in_all, is_overfull as is_overfull_of, nothing_seen};
+ghost use Rattle.answer_check.specs.steps.Finds.{BreaksAt, FindsPlace};
+ghost use Rattle.answer_check.specs.steps.Seen.{seen_after_link, seen_after_port, seen_after_instance, seen_in as seen_in_all, is_overfull as is_overfull_of, nothing_seen};
 
 use crate::masks::{bit, has_bit};
 use crate::place::Place;

@@ -4,8 +4,8 @@ ghost use Rattle.prod_model.specs.ExprBounds.{is_truth_at};
 ghost use Rattle.prod_model.specs.Valid.{IsValid, IsValidOrder};
 ghost use Rattle.config_value.specs.Shaped.{is_shaped};
 ghost use Rattle.config_value.specs.Value.{is_under as is_under_of, is_true_at};
-ghost use Rattle.answer_check.specs.Finds.{BreaksAt, FindsPlace};
-ghost use Rattle.answer_check.specs.InstanceSets.{is_member};
+ghost use Rattle.answer_check.specs.steps.Finds.{BreaksAt, FindsPlace};
+ghost use Rattle.answer_check.specs.steps.InstanceSets.{is_member};
 ghost use Rattle.answer_check.specs.Requested.{MeetsRequest};
 
 use crate::evaluate::truth_at;

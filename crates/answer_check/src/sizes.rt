@@ -5,7 +5,7 @@ ghost use Rattle.prod_model.specs.Limits.{is_between as is_between_of};
 ghost use Rattle.prod_model.specs.Valid.{IsValid};
 ghost use Rattle.config_value.specs.Value.{under};
 ghost use Rattle.config_value.specs.Spelled.{is_spelled};
-ghost use Rattle.answer_check.specs.Finds.{BreaksAt, FindsPlace};
+ghost use Rattle.answer_check.specs.steps.Finds.{BreaksAt, FindsPlace};
 
 use crate::instances::{count_under, is_instance_under};
 use crate::links::is_between;

@@ -6,9 +6,9 @@ ghost use Rattle.prod_model.specs.declared.expr.Expr.TheViews.{out-Expr};
 ghost use Rattle.prod_model.specs.Valid.{IsValid};
 ghost use Rattle.config_value.specs.Shaped.{is_shaped};
 ghost use Rattle.config_value.specs.Value.{is_true_at, holds as holds_of};
-ghost use Rattle.answer_check.specs.Evaluable.{simple_truth};
+ghost use Rattle.answer_check.specs.steps.Evaluable.{simple_truth};
 ghost use Rattle.answer_check.specs.Faultless.{HasBoundsAt};
-ghost use Rattle.answer_check.specs.InstanceSets.{is_member, HasBoundsAmong, EachHasBoundsAmong, AreTrueAmong};
+ghost use Rattle.answer_check.specs.steps.InstanceSets.{is_member, HasBoundsAmong, EachHasBoundsAmong, AreTrueAmong};
 
 use crate::instance_set::InstanceSet;
 use crate::instances::{is_instance_under, value_at_instance};

@@ -3,8 +3,8 @@ ghost use Rattle.std.specs.Prelude.{◌≡◌, ◌<◌, ◌≤◌, ◌==◌, IsT
 ghost use Rattle.std.specs.Int.{bit_at};
 ghost use Rattle.std.specs.List.{fold};
 ghost use Rattle.config_value.specs.Spelled.{is_spelled};
-ghost use Rattle.answer_check.specs.Finds.{BreaksAt, FindsPlace};
-ghost use Rattle.answer_check.specs.Turns.{comes_in_turn as comes_in_turn_of, turns_after_link, turns_after_port, turns_after_instance, turns_in as turns_in_all};
+ghost use Rattle.answer_check.specs.steps.Finds.{BreaksAt, FindsPlace};
+ghost use Rattle.answer_check.specs.steps.Turns.{comes_in_turn as comes_in_turn_of, turns_after_link, turns_after_port, turns_after_instance, turns_in as turns_in_all};
 
 use crate::masks::{bit, has_bit};
 use crate::place::Place;

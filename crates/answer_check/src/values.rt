@@ -8,7 +8,7 @@ ghost use Rattle.prod_model.specs.Taxonomy.{attribute_of, first_words};
 ghost use Rattle.prod_model.specs.Valid.{IsValid};
 ghost use Rattle.config_value.specs.Shaped.{is_in, has_value};
 ghost use Rattle.config_value.specs.Spelled.{is_spelled};
-ghost use Rattle.answer_check.specs.Finds.{BreaksAt, FindsItem, FindsPlace};
+ghost use Rattle.answer_check.specs.steps.Finds.{BreaksAt, FindsItem, FindsPlace};
 
 use crate::first_words::first_words;
 use crate::place::Place;

@@ -8,7 +8,7 @@ use Rattle.std.proofs.lemmas.Bool.Decides.{nat_tests}
 use Rattle.std.proofs.Math.Bool.{and-true}
 use Rattle.config_value.specs.declared.configuration.Instance.{Instance}
 use Rattle.config_value.specs.Numbered.{Link, all_links, is_numbered}
-use Rattle.config_value.specs.Turn.{turn_after, turn_after_link, links_from}
+use Rattle.config_value.specs.steps.Turn.{turn_after, turn_after_link, links_from}
 use Rattle.config_value.proofs.Mention.{leads_to, from_lower, mentioned_lower, mentioned_before, mentioned_before_cons, mentioned_lower_is_some}
 
 -- Instance j is in order among those from k on: a lower one mentions it first, and j is k or is

@@ -4,7 +4,7 @@ use Rattle.std.proofs.lemmas.List.{drop_more}
 use Rattle.std.specs.Option.{option_and_then}
 use Rattle.config_value.specs.declared.configuration.Instance.{Instance}
 use Rattle.config_value.specs.Numbered.{Link}
-use Rattle.config_value.specs.Turn.{turn_after, turn_after_link, port_links, instance_links, links_from}
+use Rattle.config_value.specs.steps.Turn.{turn_after, turn_after_link, port_links, instance_links, links_from}
 
 -- two steps that may fail, one after another
 option_and_then_assoc : {A B C : Type 0} (f : A → Option B) (g : B → Option C) (o : Option A)

@@ -2,7 +2,6 @@ pub mod Value
 pub mod Shaped
 pub mod Spelled
 pub mod Numbered
-pub mod Turn
 pub mod Satisfies
 pub mod Rank
 pub mod Preferred
@@ -10,3 +9,4 @@ pub mod Conflict
 pub mod Laws
 pub mod ShapedSentences
 pub mod BoundsHold
+pub mod steps

@@ -1,7 +1,7 @@
 //! Whose turn it is to be mentioned, as the links of a configuration are read in order.
 ghost use Rattle.std.specs.Prelude.{◌≡◌};
 ghost use Rattle.config_value.specs.Numbered.{is_numbered};
-ghost use Rattle.config_value.specs.Turn.{turn_after, turn_after_link, port_links, instance_links, links_from};
+ghost use Rattle.config_value.specs.steps.Turn.{turn_after, turn_after_link, port_links, instance_links, links_from};
 
 use crate::configuration::Instance;
 use prod_model::Items;

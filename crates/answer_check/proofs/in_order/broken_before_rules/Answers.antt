@@ -1,6 +1,6 @@
 use Rattle.std.proofs.Common.{sym, subst, Some}
 use Rattle.answer_check.specs.declared.verdict.Verdict.{Verdict}
-use Rattle.answer_check.specs.Finds.{FindsBreakBelow}
+use Rattle.answer_check.specs.steps.Finds.{FindsBreakBelow}
 use Rattle.answer_check.proofs.FirstBreaks.{found_break, below_2, below_3, below_4, below_5, below_6, below_7, below_8, below_9, below_10}
 use Rattle.answer_check.proofs.in_order.broken_before_rules.Goals as goal
 

@@ -1,6 +1,6 @@
 use Rattle.std.proofs.Common.{sym, subst, Some, refl}
 use Rattle.answer_check.specs.declared.verdict.Verdict.{Verdict}
-use Rattle.answer_check.specs.Finds.{FindsBreakBelow}
+use Rattle.answer_check.specs.steps.Finds.{FindsBreakBelow}
 use Rattle.answer_check.proofs.FirstBreaks.{no_break_next, found_break}
 use Rattle.answer_check.proofs.NoBreaks.{shaped_unbroken, satisfies_unbroken, told_unsatisfied}
 use Rattle.answer_check.proofs.in_order.check.Goals as goal

@@ -1,6 +1,6 @@
 use Rattle.std.proofs.Common.{◌∙◌, ap, ap₂, arith}
 use Rattle.std.specs.List.{fold}
-use Rattle.answer_check.specs.InstanceSets.{is_member, with_instance}
+use Rattle.answer_check.specs.steps.InstanceSets.{is_member, with_instance}
 use Rattle.answer_check.proofs.FewItems.{few_shaped}
 use Rattle.answer_check.proofs.LinkedLaws.{linked_next}
 use Rattle.config_value.proofs.SpelledLaws.{shaped_is_spelled}

@@ -1,7 +1,7 @@
 use Rattle.std.proofs.Common.{◌≡◌, ℕ, ◌&&◌, ◌==◌}
 use Rattle.std.specs.List.{list_any, range_with_len}
 use Rattle.config_value.specs.Value.{links_at_instance}
-use Rattle.answer_check.specs.InstanceSets.{is_member}
+use Rattle.answer_check.specs.steps.InstanceSets.{is_member}
 use Rattle.answer_check.proofs.linked.linked_from.Given as goal
 
 -- those linked from the instances so far

@@ -2,7 +2,7 @@ use Rattle.std.proofs.Common.{ℕ, ◌<◌, ◌+◌, ◌&&◌, ◌∙◌, sym, s
 use Rattle.std.proofs.lemmas.Bool.{and_parts}
 use Rattle.std.specs.List.{list_all}
 use Rattle.config_value.specs.Value.{links_at_instance}
-use Rattle.answer_check.specs.InstanceSets.{is_member}
+use Rattle.answer_check.specs.steps.InstanceSets.{is_member}
 use Rattle.answer_check.proofs.FewItems.{few_shaped}
 use Rattle.answer_check.proofs.MemberLaws.{HasFoundBelow, found_with, found_without, found_all}
 use Rattle.answer_check.proofs.linked.linking_only.Goals as goal

@@ -1,7 +1,7 @@
 use Rattle.std.proofs.Common.{◌&&◌}
 use Rattle.std.specs.List.{list_all}
 use Rattle.config_value.specs.Value.{links_at_instance}
-use Rattle.answer_check.specs.InstanceSets.{is_member}
+use Rattle.answer_check.specs.steps.InstanceSets.{is_member}
 use Rattle.answer_check.proofs.MemberLaws.{HasFoundBelow}
 use Rattle.answer_check.proofs.linked.linking_only.Given as goal
 

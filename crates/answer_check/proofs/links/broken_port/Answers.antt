@@ -1,6 +1,6 @@
 use Rattle.std.proofs.Common.{arith}
-use Rattle.answer_check.specs.Finds.{BreaksAt}
-use Rattle.answer_check.specs.PortTests.{code_of}
+use Rattle.answer_check.specs.steps.Finds.{BreaksAt}
+use Rattle.answer_check.specs.steps.PortTests.{code_of}
 use Rattle.answer_check.proofs.Items.{no_place_next, no_place}
 use Rattle.answer_check.proofs.BrokenPorts.{broken_within}
 use Rattle.answer_check.proofs.FewItems.{few_instances}

@@ -1,5 +1,5 @@
-use Rattle.answer_check.specs.Finds.{BreaksAt}
-use Rattle.answer_check.specs.PortTests.{code_of}
+use Rattle.answer_check.specs.steps.Finds.{BreaksAt}
+use Rattle.answer_check.specs.steps.PortTests.{code_of}
 use Rattle.answer_check.proofs.Items.{NoPlaceBelow}
 use Rattle.answer_check.proofs.links.broken_port.Given as goal
 

@@ -1,6 +1,6 @@
 use Rattle.std.proofs.Common.{ℕ, sym, subst, Option, Some, None, arith}
-use Rattle.answer_check.specs.Finds.{BreaksAt, FindsItem}
-use Rattle.answer_check.specs.PortTests.{code_of}
+use Rattle.answer_check.specs.steps.Finds.{BreaksAt, FindsItem}
+use Rattle.answer_check.specs.steps.PortTests.{code_of}
 use Rattle.answer_check.proofs.BrokenPorts.{finds_port, few_places}
 use Rattle.answer_check.proofs.links.broken_port_of.Goals as goal
 

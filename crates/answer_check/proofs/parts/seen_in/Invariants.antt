@@ -1,5 +1,5 @@
 use Rattle.std.proofs.Common.{◌≡◌, take, fold}
-use Rattle.answer_check.specs.Seen.{nothing_seen, seen_after_instance}
+use Rattle.answer_check.specs.steps.Seen.{nothing_seen, seen_after_instance}
 use Rattle.answer_check.proofs.parts.seen_in.Given as goal
 
 abbrev pub invariant-loop-i : goal.invariant-loop-i

@@ -1,4 +1,4 @@
-use Rattle.answer_check.specs.Finds.{BreaksAt}
+use Rattle.answer_check.specs.steps.Finds.{BreaksAt}
 use Rattle.answer_check.proofs.Items.{NoPlaceBelow}
 use Rattle.answer_check.proofs.parts.shared_part.Given as goal
 

@@ -1,5 +1,5 @@
 use Rattle.std.proofs.Common.{◌≡◌, ℕ, ◌+◌, ◌∙◌, ap, sym, subst, length, Option, Some, None, arith}
-use Rattle.answer_check.specs.Finds.{BreaksAt}
+use Rattle.answer_check.specs.steps.Finds.{BreaksAt}
 use Rattle.answer_check.proofs.FewItems.{few_shaped, few_rules}
 use Rattle.answer_check.proofs.FaultlessLaws.{faultless_rule, rule_within, rule_item_within}
 use Rattle.answer_check.proofs.FirstRule.{IsFirstSoFar, first_start, first_found, first_kept, first_end, rule_finds}

@@ -1,5 +1,5 @@
 use Rattle.std.proofs.Common.{length}
-use Rattle.answer_check.specs.Finds.{BreaksAt}
+use Rattle.answer_check.specs.steps.Finds.{BreaksAt}
 use Rattle.answer_check.proofs.FirstRule.{IsFirstSoFar}
 use Rattle.answer_check.proofs.rules.false_rule.Given as goal
 

@@ -1,6 +1,6 @@
 use Rattle.std.proofs.Common.{sym, subst, Option, arith}
 use Rattle.answer_check.specs.declared.place.Place.{Place}
-use Rattle.answer_check.specs.Finds.{BreaksAt, FindsPlace}
+use Rattle.answer_check.specs.steps.Finds.{BreaksAt, FindsPlace}
 use Rattle.answer_check.proofs.FewItems.{few_instances}
 use Rattle.answer_check.proofs.Singles.{none_bad_count, some_bad_count, few_bad_counts}
 use Rattle.answer_check.proofs.sizes.bad_count.Goals as goal

@@ -8,7 +8,7 @@ use Rattle.prod_model.proofs.expr.Expr.TheLaws.{the_size}
 use Rattle.prod_model.specs.declared.expr.Expr.{the_lemmas}
 use Rattle.std.proofs.lemmas.Option.{slice_get_read}
 use Rattle.config_value.specs.Value.{is_true_at, links_at_instance}
-use Rattle.answer_check.specs.InstanceSets.{is_member}
+use Rattle.answer_check.specs.steps.InstanceSets.{is_member}
 use Rattle.base_laws.proofs.Steps.{all_next, any_next}
 use Rattle.answer_check.proofs.EvaluationLaws.{value_at_form, evaluable}
 use Rattle.answer_check.proofs.TruthLaws.{none_more, but_not, but_not_not, if_then, bounded_within, linked_bounded, all_linked, any_linked}

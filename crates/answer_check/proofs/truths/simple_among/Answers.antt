@@ -1,8 +1,8 @@
 use Rattle.std.proofs.Common.{ℕ, ◌<◌, ◌+◌, ◌&&◌, ◌∙◌, sym, subst, arith}
 use Rattle.std.proofs.lemmas.Bool.{and_parts, and_from, and_left, and_right}
 use Rattle.prod_model.specs.declared.expr.Expr.TheViews.{out-Expr}
-use Rattle.answer_check.specs.Evaluable.{simple_truth}
-use Rattle.answer_check.specs.InstanceSets.{is_member}
+use Rattle.answer_check.specs.steps.Evaluable.{simple_truth}
+use Rattle.answer_check.specs.steps.InstanceSets.{is_member}
 use Rattle.answer_check.proofs.FewItems.{few_shaped}
 use Rattle.answer_check.proofs.MemberLaws.{HasFoundBelow, found_with, found_without, found_all}
 use Rattle.answer_check.proofs.TruthLaws.{bounded_within}

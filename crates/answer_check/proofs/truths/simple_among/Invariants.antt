@@ -1,7 +1,7 @@
 use Rattle.std.proofs.Common.{◌&&◌}
 use Rattle.prod_model.specs.declared.expr.Expr.TheViews.{out-Expr}
-use Rattle.answer_check.specs.Evaluable.{simple_truth}
-use Rattle.answer_check.specs.InstanceSets.{is_member}
+use Rattle.answer_check.specs.steps.Evaluable.{simple_truth}
+use Rattle.answer_check.specs.steps.InstanceSets.{is_member}
 use Rattle.answer_check.proofs.MemberLaws.{HasFoundBelow}
 use Rattle.answer_check.proofs.truths.simple_among.Given as goal
 

@@ -1,5 +1,5 @@
 use Rattle.std.proofs.Common.{◌∙◌, ap, sym, arith}
-use Rattle.answer_check.specs.Turns.{turns_after_instance}
+use Rattle.answer_check.specs.steps.Turns.{turns_after_instance}
 use Rattle.answer_check.proofs.TurnMasks.{turns_next, turns_all}
 use Rattle.answer_check.proofs.turns.turns_in.Goals as goal
 

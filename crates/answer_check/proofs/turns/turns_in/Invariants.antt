@@ -1,6 +1,6 @@
 use Rattle.std.proofs.Common.{◌≡◌, take}
 use Rattle.std.specs.List.{fold, enumerate_from}
-use Rattle.answer_check.specs.Turns.{no_turns, turns_after_instance}
+use Rattle.answer_check.specs.steps.Turns.{no_turns, turns_after_instance}
 use Rattle.answer_check.proofs.turns.turns_in.Given as goal
 
 abbrev pub invariant-loop-i : goal.invariant-loop-i

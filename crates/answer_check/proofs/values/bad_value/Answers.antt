@@ -1,5 +1,5 @@
 use Rattle.std.proofs.Common.{arith}
-use Rattle.answer_check.specs.Finds.{BreaksAt}
+use Rattle.answer_check.specs.steps.Finds.{BreaksAt}
 use Rattle.answer_check.proofs.Items.{no_place_next, no_place}
 use Rattle.answer_check.proofs.BadValues.{bad_within}
 use Rattle.answer_check.proofs.FewItems.{few_instances}

@@ -2,7 +2,7 @@ use Rattle.std.proofs.Common.{◌≡◌, ◌∙◌, arith, ap, sym, refl, pos, l
 use Rattle.std.proofs.lemmas.Int.{ints, to_z-of_z}
 use Rattle.prod_model.specs.Taxonomy.{attributes_at}
 use Rattle.config_value.specs.Shaped.{has_value}
-use Rattle.answer_check.specs.Finds.{BreaksAt}
+use Rattle.answer_check.specs.steps.Finds.{BreaksAt}
 use Rattle.answer_check.specs.Breaks.{bad_value}
 use Rattle.answer_check.proofs.Items.{no_item_next}
 use Rattle.answer_check.proofs.BadValues.{found_known, good_value, bad_item_within, value_is_within, attribute_read, value_read}

@@ -1,4 +1,4 @@
-use Rattle.answer_check.specs.Finds.{BreaksAt}
+use Rattle.answer_check.specs.steps.Finds.{BreaksAt}
 use Rattle.answer_check.proofs.Items.{NoItemBelow}
 use Rattle.answer_check.proofs.values.bad_value_of.Given as goal
 

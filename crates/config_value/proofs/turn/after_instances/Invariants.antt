@@ -1,5 +1,5 @@
 use Rattle.std.proofs.Common.{◌≡◌, drop}
-use Rattle.config_value.specs.Turn.{turn_after, links_from}
+use Rattle.config_value.specs.steps.Turn.{turn_after, links_from}
 use Rattle.config_value.proofs.turn.after_instances.Given as goal
 
 -- the instances to come lead from this turn to where all of them lead from 1

@@ -1,5 +1,5 @@
 use Rattle.std.proofs.Common.{◌≡◌, drop}
-use Rattle.config_value.specs.Turn.{turn_after, port_links}
+use Rattle.config_value.specs.steps.Turn.{turn_after, port_links}
 use Rattle.config_value.proofs.turn.after_links.Given as goal
 
 -- the links to come lead from this turn to where all of them lead from the first

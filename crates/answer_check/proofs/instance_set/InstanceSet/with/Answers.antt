@@ -1,6 +1,6 @@
 use Rattle.std.proofs.Common.{◌≡◌, ◌∙◌, ap, ap₂, sym, true, nat_lt, bit_or, arith}
 use Rattle.std.proofs.lemmas.Bool.Decides.{nat_tests}
-use Rattle.answer_check.specs.InstanceSets.{is_member, with_instance}
+use Rattle.answer_check.specs.steps.InstanceSets.{is_member, with_instance}
 use Rattle.answer_check.proofs.MemberLaws.{member_or_one}
 use Rattle.answer_check.proofs.instance_set.InstanceSet.with.Goals as goal
 
