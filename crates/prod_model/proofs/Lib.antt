@@ -22,3 +22,8 @@ pub mod LineLaws
 pub mod NarrowingLaws
 pub mod NoTypes
 pub mod EntryNames
+pub mod Ancestors
+pub mod DistinctDeclarations
+pub mod MappedEntries
+pub mod ShortLists
+pub mod TaxonomyTests
