@@ -1,9 +1,20 @@
 -- What the lists of paths and places contain.
-use Rattle.std.proofs.Common.{◌≡◌, ℕ, zero, suc, sym, ap, subst, refl, Bool, true, false, List, [], ◌∷◌, flat_map, Contains, inl, inr, arith}
+use Rattle.std.proofs.Common.{◌≡◌, ℕ, zero, suc, ◌∙◌, sym, ap, Some, subst, refl, Bool, true, false, List, [], ◌∷◌, flat_map, Contains, inl, inr, arith}
 use Rattle.std.proofs.lemmas.Bool.{false≢true}
 use Rattle.std.proofs.lemmas.List.Elements.{Contains-append_left, Contains-append_right, Contains-append_cases}
+use Rattle.std.proofs.lemmas.Option.{slice_get_within, slice_get-get_or, get_or_from_slice_get}
+use Rattle.base_laws.specs.Places.{IsAt}
+use Rattle.base_laws.proofs.Places.{at_map, map_at}
 use Rattle.expr_bounds.specs.Faults.{place_unless}
 use Rattle.expr_bounds.specs.steps.Search.{whole_if, places}
+
+-- what stands at a place is contained
+pub contained_at : {X : Type 0} (xs : List X) (k : ℕ) (x : X) → IsAt xs k x → Contains xs x
+contained_at xs k x at = (k, slice_get_within xs k x at, get_or_from_slice_get xs k x x at)
+
+-- what is contained stands at a place
+pub at_contained : {X : Type 0} (xs : List X) (x : X) → Contains xs x → (k : ℕ) × IsAt xs k x
+at_contained xs x among = (among.0, slice_get-get_or xs among.0 x among.1 ∙ ap (λ y. Some y) among.2)
 
 pub contains_one : {X : Type 0} (x : X) → Contains (x ∷ []) x
 contains_one x = (0, omega arith, refl)
@@ -16,16 +27,13 @@ pub none_contained : {X : Type 0} (y : X) → ¬ Contains [] y
 none_contained y among = omega (arith, among.1)
 
 pub contains_places : (ks : List ℕ) (k : ℕ) → Contains ks k → Contains (places ks) (k ∷ [])
-contains_places [] k among = absurd (none_contained k among)
-contains_places (j ∷ ks) k (zero, within, is) = (0, omega arith, ap (λ (n : ℕ). n ∷ []) is)
-contains_places (j ∷ ks) k (suc i, within, is) =
-    let rest = contains_places ks k (i, omega arith, is) in (suc rest.0, omega (arith, rest.1), rest.2)
+contains_places ks k among =
+    let at = at_contained ks k among in contained_at (places ks) at.0 (k ∷ []) (at_map (λ (n : ℕ). n ∷ []) ks at.0 k at.1)
 
 pub places_contained : (ks : List ℕ) (path : List ℕ) → Contains (places ks) path → (k : ℕ) × (Contains ks k) × (k ∷ [] ≡ path)
-places_contained [] path among = absurd (none_contained path among)
-places_contained (j ∷ ks) path (zero, within, is) = (j, (0, omega arith, refl), is)
-places_contained (j ∷ ks) path (suc i, within, is) =
-    let rest = places_contained ks path (i, omega arith, is) in (rest.0, (suc rest.1.0, omega (arith, rest.1.1), rest.1.2), rest.2)
+places_contained ks path among =
+    let at = at_contained (places ks) path among in
+    let there = map_at (λ (n : ℕ). n ∷ []) ks at.0 path at.1 in (there.0, contained_at ks at.0 there.0 there.1, there.2)
 
 pub whole_contained : (b : Bool) (path : List ℕ) → Contains (whole_if b) path → (b ≡ true) × ([] ≡ path)
 whole_contained true path among = (refl, one_contained [] path among)

@@ -22,7 +22,7 @@ use Rattle.expr_bounds.specs.Parts.{type_of_arguments}
 use Rattle.expr_bounds.specs.steps.FormBounds.{form_bounds}
 use Rattle.expr_bounds.specs.Faults.{place_unless, has_range, has_words, is_known_word, unknown_names, wrong_attributes, needs_truths}
 use Rattle.expr_bounds.specs.Ends.{ends_within, ends_of_range, ends_of_some, ends_of_both, ends_of_all, ends_of_difference, ends_of_multiple, ends_of, is_beyond, is_wide}
-use Rattle.expr_bounds.proofs.FormSound.{kind_of, HasKind, some_kind, one_argument, two_arguments, list_arguments}
+use Rattle.expr_bounds.proofs.FormSound.{kind_of, HasKind, some_kind, some_mapped, one_argument, two_arguments, list_arguments}
 
 -- ---- within the limits, or beyond them
 
@@ -128,10 +128,6 @@ number_within : (o : Option Bounds) → is_some (ends_within o) ≡ true → kin
 number_within None some = absurd (false≢true some)
 number_within (Some truth) some = absurd (false≢true some)
 number_within (Some (number a b)) some = refl
-
-some_mapped : {A B : Type 0} (f : A → B) (o : Option A) → is_some (option_map f o) ≡ true → is_some o ≡ true
-some_mapped f None some = some
-some_mapped f (Some x) some = refl
 
 some_both : {A B C : Type 0} (f : A → B → C) (o : Option A) (r : Option B) → is_some (option_and_then (λ a. option_map (f a) r) o) ≡ true
     → (is_some o ≡ true) × (is_some r ≡ true)

@@ -3,6 +3,7 @@ use Rattle.std.proofs.Common.{◌≡◌, ℕ, ◌≤◌, ◌∙◌, sym, ap, ref
 use Rattle.std.specs.Prelude.{slice_get}
 use Rattle.std.specs.List.{list_all}
 use Rattle.std.proofs.lemmas.List.{length-map}
+use Rattle.std.proofs.lemmas.List.Folds.{list_all-map}
 use Rattle.std.proofs.lemmas.Bool.Decides.{nat_tests}
 use Rattle.prod_model.specs.declared.expr.Expr.{Expr}
 use Rattle.prod_model.specs.declared.expr.Expr.TheOpen.{Expr-F, Add, Sub, Times, Cmp, And, Or, Not, If, All, Any}
@@ -18,8 +19,7 @@ abbrev HasFormedArguments : List Expr → Type 0
 HasFormedArguments es = (length es ≤ 64) × (list_all is_form es ≡ true)
 
 pub all_map : (es : List Expr) → list_all (λ b. b) (map is_form es) ≡ list_all is_form es
-all_map [] = refl
-all_map (e ∷ es) = ap (λ b. is_form e && b) (all_map es)
+all_map es = list_all-map (λ b. b) is_form es
 
 formed_none : HasFormedArguments []
 formed_none = (omega arith, refl)

@@ -131,9 +131,9 @@ if_holds : {A : Type 0} (b : Bool) (o : Option A) → is_some (if b then o else 
 if_holds true o is = (refl, is)
 if_holds false o is = absurd (false≢true is)
 
-map_some : {A B : Type 0} (f : A → B) (o : Option A) → is_some (option_map f o) ≡ true → is_some o ≡ true
-map_some f None is = is
-map_some f (Some x) is = refl
+pub some_mapped : {A B : Type 0} (f : A → B) (o : Option A) → is_some (option_map f o) ≡ true → is_some o ≡ true
+some_mapped f None is = is
+some_mapped f (Some x) is = refl
 
 count_kind : (o : Option PortAt) (f : PortAt → Bounds) → ((q : PortAt) → kind_of (Some (f q)) ≡ Some false) → is_some (option_map f o) ≡ true → kind_of (option_map f o) ≡ Some false
 count_kind None f each is = absurd (false≢true is)
@@ -180,7 +180,7 @@ sound m (Attr a) t is =
     let found = number_of_range (attribute_of m t a) bounded number_kind is in
     record { names = no_place _ 1 found.0; attributes = no_place _ 1 found.1; arguments = no_arguments m (Some t) false; kind = found.2 }
 sound m (Count p) t is = record {
-  names = no_place _ 1 (map_some _ (port_of m t p) is);
+  names = no_place _ 1 (some_mapped _ (port_of m t p) is);
   attributes = refl;
   arguments = no_arguments m (Some t) false;
   kind = count_kind (port_of m t p) _ (λ q. refl) is;
@@ -188,7 +188,7 @@ sound m (Count p) t is = record {
 sound m (CountOf p u) t is =
     let holds = if_holds (is_type m u) _ is in
     record {
-      names = both_known (is_some (port_of m t p)) (is_type m u) (map_some _ (port_of m t p) holds.1) holds.0;
+      names = both_known (is_some (port_of m t p)) (is_type m u) (some_mapped _ (port_of m t p) holds.1) holds.0;
       attributes = refl;
       arguments = no_arguments m (Some t) false;
       kind = rw holds.0 (count_kind (port_of m t p) (λ q. number (pos 0) (pos q.high)) (λ q. refl) holds.1);

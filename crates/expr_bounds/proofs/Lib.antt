@@ -4,6 +4,7 @@ pub mod BoundsLaws
 pub mod Elements
 pub mod EndsLaws
 pub mod Faultless
+pub mod FaultlessBounded
 pub mod FaultsFound
 pub mod FirstFault
 pub mod FormLaws
@@ -15,6 +16,5 @@ pub mod PartStandings
 pub mod PathOrder
 pub mod Rows
 pub mod SampleLaws
-pub mod Turns
 pub mod WideParts
 pub mod FirstWords

@@ -1,5 +1,5 @@
 -- The own faults of a part ascend, and come before those of its arguments.
-use Rattle.std.proofs.Common.{◌≡◌, ℕ, suc, zero, ◌+◌, ◌≤◌, ◌∙◌, sym, ap, refl, Bool, true, false, not, List, [], ◌∷◌, ◌++◌, Option, Some, None, IsTrue, Contains, arith}
+use Rattle.std.proofs.Common.{◌≡◌, ℕ, ◌+◌, ◌≤◌, ◌∙◌, sym, ap, refl, Bool, true, false, not, List, [], ◌∷◌, ◌++◌, Option, Some, None, IsTrue, Contains, arith}
 use Rattle.std.specs.Prelude.{slice_get, nat_le, is_some, if◌then◌else◌}
 use Rattle.std.specs.Option.{option_map_or}
 use Rattle.std.specs.List.{list_all}
@@ -19,14 +19,14 @@ use Rattle.expr_bounds.specs.steps.Search.{own_faults, whole_if, places, is_too_
 use Rattle.expr_bounds.specs.declared.fault_kind.FaultKind.{FaultKind}
 use Rattle.expr_bounds.specs.declared.fault_kind.FaultKind.TheVariants.{Deep, UnknownName, WrongKind, Wide}
 use Rattle.expr_bounds.specs.declared.standing.Standing.{Standing}
+use Rattle.base_laws.proofs.Tests.{list_all_at}
+use Rattle.expr_bounds.proofs.Elements.{at_contained}
 use Rattle.expr_bounds.proofs.PathOrder.{not_before_whole, before_rest}
 
 -- ---- tests of all members
 
-pub all_contains : {X : Type 0} (p : X → Bool) (xs : List X) (x : X) → list_all p xs ≡ true → Contains xs x → p x ≡ true
-all_contains p [] x all among = absurd (omega (arith, among.1))
-all_contains p (y ∷ ys) x all (zero, within, is) = let here : p y ≡ true = grind (arith) in ap p (sym is) ∙ here
-all_contains p (y ∷ ys) x all (suc k, within, is) = all_contains p ys x (grind (arith)) (k, omega arith, is)
+all_contains : {X : Type 0} (p : X → Bool) (xs : List X) (x : X) → list_all p xs ≡ true → Contains xs x → p x ≡ true
+all_contains p xs x all among = let at = at_contained xs x among in list_all_at p xs all at.0 x at.1
 
 -- ---- own faults ascend
 

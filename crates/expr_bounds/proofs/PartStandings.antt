@@ -1,6 +1,7 @@
 -- How the parts of an expression stand, so that their faults are faults of the whole.
-use Rattle.std.proofs.Common.{◌≡◌, ℕ, zero, suc, ◌+◌, ◌-◌, ◌<◌, ◌≤◌, ◌∙◌, sym, ap, subst, refl, List, [], ◌∷◌, ◌++◌, length, Option, Some, None, ◌⊎◌, unwrap_or, append_assoc, length-append, inl, inr, arith}
+use Rattle.std.proofs.Common.{◌≡◌, ℕ, zero, suc, ◌+◌, ◌-◌, ◌≤◌, ◌∙◌, sym, ap, subst, refl, List, [], ◌∷◌, ◌++◌, length, Option, Some, None, unwrap_or, append_assoc, length-append, inl, inr, arith}
 use Rattle.std.specs.Option.{option_and_then}
+use Rattle.std.proofs.lemmas.Bool.{cases_lt}
 use Rattle.prod_model.specs.declared.model.Model.{Model}
 use Rattle.prod_model.specs.declared.expr.Expr.{Expr}
 use Rattle.prod_model.specs.declared.expr.Expr.TheViews.{out-Expr}
@@ -26,15 +27,10 @@ levels_gone : (k : ℕ) → levels_after (17 + k) ≡ None
 levels_gone zero = refl
 levels_gone (suc k) = let e : 17 + suc k ≡ suc (17 + k) = omega arith in ap levels_after e ∙ ap (option_and_then levels_below) (levels_gone k)
 
-order : (n k : ℕ) → (n ≤ k) ⊎ (k < n)
-order zero k = inl (omega arith)
-order (suc n) zero = inr (omega arith)
-order (suc n) (suc k) = elim (order n k) [ inl few ↦ inl (omega arith) | inr many ↦ inr (omega arith) ]
-
 pub no_levels : (n : ℕ) → levels_after n ≡ Some 0 → n ≡ 16
-no_levels n none = elim (order n 16) [
-  | inl few ↦ (let left = sym (levels_left n few) ∙ none in let e : 16 - n ≡ 0 = ap (λ o. unwrap_or o 0) left in omega arith)
-  | inr many ↦ (let k = n - 17 in let e : n ≡ 17 + (n - 17) = omega arith in let gone = sym none ∙ ap levels_after e ∙ levels_gone (n - 17) in cc)
+no_levels n none = elim (cases_lt 16 n) [
+  | inr few ↦ (let left = sym (levels_left n few) ∙ none in let e : 16 - n ≡ 0 = ap (λ o. unwrap_or o 0) left in omega arith)
+  | inl many ↦ (let k = n - 17 in let e : n ≡ 17 + (n - 17) = omega arith in let gone = sym none ∙ ap levels_after e ∙ levels_gone (n - 17) in cc)
 ]
 
 pub length_step : (path : List ℕ) (k : ℕ) → length (path ++ k ∷ []) ≡ suc (length path)

@@ -7,7 +7,7 @@ use Rattle.prod_model.specs.declared.model.Model.{Model}
 use Rattle.prod_model.specs.declared.expr.Expr.{Expr}
 use Rattle.prod_model.specs.declared.expr.Expr.TheViews.{out-Expr}
 use Rattle.prod_model.specs.ExprBounds.{bounds_at}
-use Rattle.base_laws.proofs.Tests.{list_all_at}
+use Rattle.base_laws.proofs.Tests.{list_all_at, option_map_or_at}
 use Rattle.expr_bounds.specs.steps.Arguments.{argument_list, first_place, has_right_count}
 use Rattle.expr_bounds.specs.Ends.{is_wide}
 use Rattle.expr_bounds.specs.Faults.{place_unless, same_truth, needs_truths, is_truth_form, wrong_arguments}
@@ -37,10 +37,6 @@ same_is true c same = sym same
 same_is false true same = absurd (false≢true same)
 same_is false false same = refl
 
-passes_there : (p : ℕ → Bool) (o : Option ℕ) → option_map_or p o false ≡ true → (u : ℕ) × (o ≡ Some u) × (p u ≡ true)
-passes_there p None passes = absurd (false≢true passes)
-passes_there p (Some u) passes = (u, refl, passes)
-
 none_there : {A : Type 0} (o : Option A) → is_none o ≡ true → o ≡ None
 none_there None none = refl
 none_there (Some x) none = absurd (false≢true none)
@@ -53,7 +49,7 @@ right_argument m part of right all i arg found =
     let needed = needs_truths (out-Expr part) in
     let place = first_place (out-Expr part) + i in
     let passes = list_all_at (λ x. option_map_or (λ u. is_some (bounds_at m x u)) (type_of_arguments m (out-Expr part) (Some of)) false) (argument_list (out-Expr part)) all i arg found in
-    let there = passes_there (λ u. is_some (bounds_at m arg u)) (type_of_arguments m (out-Expr part) (Some of)) passes in
+    let there = option_map_or_at (λ u. is_some (bounds_at m arg u)) (type_of_arguments m (out-Expr part) (Some of)) passes in
     let kind = ap kind_of (bounds_at_form m arg there.0) ∙ (sound_at m arg there.0 there.2).kind in
     let same = true_unless_false (same_truth needed (is_truth_form (out-Expr arg))) (λ differ.
     right place (contains_flat (λ (a : ℕ × Expr). place_unless (same_truth needed (is_truth_form (out-Expr a.1))) a.0) (arguments (out-Expr part)) (place, arg) place

@@ -20,6 +20,7 @@ layer_is_form (All p e) = e
 layer_is_form (Any p e) = e
 layer_is_form form = true
 
--- The expression and all its parts are of the forms of the language.
+-- Each list of arguments in the expression has 1 to 64 members: the expression and all its parts
+-- are of the forms of the language.
 unfoldable pub is_form : Expr → Bool
 is_form = fold-Expr Bool layer_is_form

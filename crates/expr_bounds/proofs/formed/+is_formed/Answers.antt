@@ -6,7 +6,7 @@ use Rattle.expr_bounds.specs.steps.Arguments.{argument_list, has_right_count}
 use Rattle.expr_bounds.specs.Forms.{is_form}
 use Rattle.expr_bounds.proofs.ArgumentLaws.{nesting_argument}
 use Rattle.expr_bounds.proofs.FormedLaws.{is_form_form}
-use Rattle.expr_bounds.proofs.Turns.{all_turn, all_stop, all_end}
+use Rattle.base_laws.proofs.Steps.{all_turn, all_stop, all_end}
 use Rattle.expr_bounds.proofs.formed.+is_formed.Goals as goal
 
 pub returns-then-not-has_right_count : goal.returns-then-not-has_right_count

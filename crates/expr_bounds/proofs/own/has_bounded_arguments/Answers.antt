@@ -4,7 +4,7 @@ use Rattle.std.specs.Option.{option_map_or}
 use Rattle.prod_model.specs.declared.expr.Expr.TheViews.{out-Expr}
 use Rattle.prod_model.specs.ExprBounds.{bounds_at}
 use Rattle.expr_bounds.specs.steps.Arguments.{argument_list}
-use Rattle.expr_bounds.proofs.Turns.{all_turn, all_stop}
+use Rattle.base_laws.proofs.Steps.{all_turn, all_stop}
 use Rattle.expr_bounds.proofs.own.has_bounded_arguments.Goals as goal
 
 pub returns-then-not-is_bounded : goal.returns-then-not-is_bounded
