@@ -14,6 +14,7 @@ use Rattle.config_value.specs.declared.configuration.Instance.{Instance}
 use Rattle.config_value.specs.Value.{under, is_under, is_true_at}
 use Rattle.config_value.specs.Shaped.{has_value, part_links}
 use Rattle.config_value.specs.Numbered.{is_in_turn}
+use Rattle.answer_check.specs.Codes.{too_many_code, other_root_code, bad_value_code, no_instance_code, off_target_code, bad_number_code, shared_part_code, misnumbered_code, bad_count_code, false_rule_code}
 use Rattle.answer_check.specs.declared.verdict.Verdict.{Verdict}
 use Rattle.answer_check.specs.declared.verdict.Verdict.TheVariants.{Satisfied, Broken}
 
@@ -41,29 +42,29 @@ most_part_links j = if j == 0 then 0 else 1
 -- Which test is broken at which instance, and at which item there.
 pub data Breaks (m : Model) (c : List Instance) (b : Break) : Type 0 where
   -- there are more instances than the model allows
-  too_many : b.code ≡ 1 → b.instance ≡ m.instances → b.item ≡ 0 → m.instances < length c → Breaks m c b
+  too_many : b.code ≡ too_many_code → b.instance ≡ m.instances → b.item ≡ 0 → m.instances < length c → Breaks m c b
   -- instance 0 is not under the root type
-  other_root : b.code ≡ 2 → b.instance ≡ 0 → b.item ≡ 0 → IsFalse (is_under m c m.root 0) → Breaks m c b
+  other_root : b.code ≡ other_root_code → b.instance ≡ 0 → b.item ≡ 0 → IsFalse (is_under m c m.root 0) → Breaks m c b
   -- a value is not in its domain
-  bad_value : b.code ≡ 3 → (x : Instance) (a : AttrAt) (v : ℤ) → Has c b.instance x → Has (attributes_at m x.kind) b.item a → Has x.values b.item v
+  bad_value : b.code ≡ bad_value_code → (x : Instance) (a : AttrAt) (v : ℤ) → Has c b.instance x → Has (attributes_at m x.kind) b.item a → Has x.values b.item v
       → IsFalse (has_value m a v) → Breaks m c b
   -- a link leads to no instance
-  no_instance : b.code ≡ 4 → (p : PortAt) (links : List ℕ) (j : ℕ) → HasPort m c b p links → Contains links j → length c ≤ j → Breaks m c b
+  no_instance : b.code ≡ no_instance_code → (p : PortAt) (links : List ℕ) (j : ℕ) → HasPort m c b p links → Contains links j → length c ≤ j → Breaks m c b
   -- a link leads to an instance that is not under the target
-  off_target : b.code ≡ 5 → (p : PortAt) (links : List ℕ) (j : ℕ) (y : Instance) → HasPort m c b p links → Contains links j → Has c j y
+  off_target : b.code ≡ off_target_code → (p : PortAt) (links : List ℕ) (j : ℕ) (y : Instance) → HasPort m c b p links → Contains links j → Has c j y
       → IsFalse (under m p.target y) → Breaks m c b
   -- the number of links is outside the port's pair
-  bad_number : b.code ≡ 6 → (p : PortAt) (links : List ℕ) → HasPort m c b p links → IsFalse (is_between p.low p.high (length links)) → Breaks m c b
+  bad_number : b.code ≡ bad_number_code → (p : PortAt) (links : List ℕ) → HasPort m c b p links → IsFalse (is_between p.low p.high (length links)) → Breaks m c b
   -- two or more part links lead to an instance, or one to instance 0
-  shared_part : b.code ≡ 7 → b.item ≡ 0 → b.instance < length c
+  shared_part : b.code ≡ shared_part_code → b.item ≡ 0 → b.instance < length c
       → most_part_links b.instance < count_by (λ j. j == b.instance) (part_links m c) → Breaks m c b
   -- an instance from 1 on is not in turn
-  misnumbered : b.code ≡ 8 → b.item ≡ 0 → 1 ≤ b.instance → b.instance < length c → IsFalse (is_in_turn c b.instance) → Breaks m c b
+  misnumbered : b.code ≡ misnumbered_code → b.item ≡ 0 → 1 ≤ b.instance → b.instance < length c → IsFalse (is_in_turn c b.instance) → Breaks m c b
   -- a count of instances is outside its bound
-  bad_count : b.code ≡ 9 → b.instance ≡ 0 → (n : CountBound) → Has m.bounds b.item n
+  bad_count : b.code ≡ bad_count_code → b.instance ≡ 0 → (n : CountBound) → Has m.bounds b.item n
       → IsFalse (is_between n.low n.high (count_by (under m n.kind) c)) → Breaks m c b
   -- a rule is false at an instance under its type
-  false_rule : b.code ≡ 10 → (x : Instance) (r : Rule) → Has c b.instance x → Has m.rules b.item r → IsTrue (under m r.kind x)
+  false_rule : b.code ≡ false_rule_code → (x : Instance) (r : Rule) → Has c b.instance x → Has m.rules b.item r → IsTrue (under m r.kind x)
       → IsFalse (is_true_at m c b.instance r.holds) → Breaks m c b
 
 -- by code, then by instance, then by item

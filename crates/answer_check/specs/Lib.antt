@@ -1,3 +1,4 @@
+pub mod Codes
 pub mod Breaks
 pub mod Faultless
 pub mod Requested

@@ -3,10 +3,12 @@ ghost use Rattle.std.specs.Prelude.{◌≡◌, ◌↔◌, IsTrue};
 ghost use Rattle.prod_model.specs.Valid.{IsValid};
 ghost use Rattle.config_value.specs.Satisfies.{satisfies};
 ghost use Rattle.config_value.specs.Spelled.{is_spelled};
+ghost use Rattle.answer_check.specs.Codes.{false_rule_code};
 ghost use Rattle.answer_check.specs.declared.verdict.Verdict.TheVariants.{Satisfied, Broken};
 ghost use Rattle.answer_check.specs.Breaks.{Tells};
 ghost use Rattle.answer_check.specs.steps.Finds.{FindsBreakBelow};
 
+use crate::codes;
 use crate::links::{PortTest, broken_port};
 use crate::parts::shared_part;
 use crate::place::Place;
@@ -31,7 +33,7 @@ pub fn check(problem: &Problem, c: &Configuration) -> Verdict
         return verdict;
     }
     match false_rule(problem, c) {
-        Some(place) => broken(10, place),
+        Some(place) => broken(codes::FALSE_RULE, place),
         None => Verdict::Satisfied,
     }
 }
@@ -40,34 +42,34 @@ pub fn check(problem: &Problem, c: &Configuration) -> Verdict
 fn broken_before_rules(problem: &Problem, c: &Configuration) -> Option<Verdict>
     requires valid { IsValid problem.now }
     requires spelled { IsTrue (is_spelled problem.now c.now) }
-    ensures { FindsBreakBelow problem.now c.now 10 result }
+    ensures { FindsBreakBelow problem.now c.now false_rule_code result }
 {
     if let Some(place) = too_many(problem, c) {
-        return Some(broken(1, place));
+        return Some(broken(codes::TOO_MANY, place));
     }
     if let Some(place) = other_root(problem, c) {
-        return Some(broken(2, place));
+        return Some(broken(codes::OTHER_ROOT, place));
     }
     if let Some(place) = bad_value(problem, c) {
-        return Some(broken(3, place));
+        return Some(broken(codes::BAD_VALUE, place));
     }
     if let Some(place) = broken_port(problem, c, PortTest::Leads) {
-        return Some(broken(4, place));
+        return Some(broken(codes::NO_INSTANCE, place));
     }
     if let Some(place) = broken_port(problem, c, PortTest::OnTarget) {
-        return Some(broken(5, place));
+        return Some(broken(codes::OFF_TARGET, place));
     }
     if let Some(place) = broken_port(problem, c, PortTest::Number) {
-        return Some(broken(6, place));
+        return Some(broken(codes::BAD_NUMBER, place));
     }
     if let Some(place) = shared_part(problem, c) {
-        return Some(broken(7, place));
+        return Some(broken(codes::SHARED_PART, place));
     }
     if let Some(place) = out_of_turn(problem, c) {
-        return Some(broken(8, place));
+        return Some(broken(codes::MISNUMBERED, place));
     }
     if let Some(place) = bad_count(problem, c) {
-        return Some(broken(9, place));
+        return Some(broken(codes::BAD_COUNT, place));
     }
     None
 }

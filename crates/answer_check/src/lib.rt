@@ -1,6 +1,7 @@
 //! Checks a configuration against a model, and tells values of expressions. Nothing here takes memory.
 #![tactic(auto)]
 
+pub mod codes;
 mod evaluate;
 mod first_words;
 mod in_order;

@@ -4,6 +4,7 @@ ghost use Rattle.std.specs.List.{fold, zip};
 ghost use Rattle.prod_model.specs.Taxonomy.{ports_at};
 ghost use Rattle.config_value.specs.Shaped.{is_part as is_part_of};
 ghost use Rattle.config_value.specs.Spelled.{is_spelled};
+ghost use Rattle.answer_check.specs.Codes.{shared_part_code};
 ghost use Rattle.answer_check.specs.steps.Finds.{BreaksAt, FindsPlace};
 ghost use Rattle.answer_check.specs.steps.Seen.{seen_after_link, seen_after_port, seen_after_instance, seen_in as seen_in_all, is_overfull as is_overfull_of, nothing_seen};
 
@@ -72,7 +73,7 @@ impl Seen {
 /// instances.
 pub(crate) fn shared_part(problem: &Problem, c: &Configuration) -> Option<Place>
     requires { IsTrue (is_spelled problem.now c.now) }
-    ensures { FindsPlace (BreaksAt problem.now c.now 7) result }
+    ensures { FindsPlace (BreaksAt problem.now c.now shared_part_code) result }
 {
     let seen = seen_in(problem, c);
     for j in 0..c.len() as u32 {

@@ -4,6 +4,7 @@ ghost use Rattle.prod_model.specs.ExprBounds.{is_truth_at};
 ghost use Rattle.prod_model.specs.Valid.{IsValid, IsValidOrder};
 ghost use Rattle.config_value.specs.Shaped.{is_shaped};
 ghost use Rattle.config_value.specs.Value.{is_under as is_under_of, is_true_at};
+ghost use Rattle.answer_check.specs.Codes.{false_rule_code};
 ghost use Rattle.answer_check.specs.steps.Finds.{BreaksAt, FindsPlace};
 ghost use Rattle.answer_check.specs.steps.InstanceSets.{is_member};
 ghost use Rattle.answer_check.specs.Requested.{MeetsRequest};
@@ -22,7 +23,7 @@ use prod_model::{Order, Problem, Rule};
 pub(crate) fn false_rule(problem: &Problem, c: &Configuration) -> Option<Place>
     requires valid { IsValid problem.now }
     requires shaped { IsTrue (is_shaped problem.now c.now) }
-    ensures { FindsPlace (BreaksAt problem.now c.now 10) result }
+    ensures { FindsPlace (BreaksAt problem.now c.now false_rule_code) result }
 {
     let rules = problem.model().rules.as_slice();
     let mut first = None;

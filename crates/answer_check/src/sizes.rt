@@ -5,6 +5,7 @@ ghost use Rattle.prod_model.specs.Limits.{is_between as is_between_of};
 ghost use Rattle.prod_model.specs.Valid.{IsValid};
 ghost use Rattle.config_value.specs.Value.{under};
 ghost use Rattle.config_value.specs.Spelled.{is_spelled};
+ghost use Rattle.answer_check.specs.Codes.{too_many_code, other_root_code, bad_count_code};
 ghost use Rattle.answer_check.specs.steps.Finds.{BreaksAt, FindsPlace};
 
 use crate::instances::{count_under, is_instance_under};
@@ -15,7 +16,7 @@ use prod_model::Problem;
 
 /// Whether there are more instances than the model allows. The first one too many stands for them. One comparison.
 pub(crate) fn too_many(problem: &Problem, c: &Configuration) -> Option<Place>
-    ensures { FindsPlace (BreaksAt problem.now c.now 1) result }
+    ensures { FindsPlace (BreaksAt problem.now c.now too_many_code) result }
 {
     let most = problem.model().instances;
     if c.len() <= most as usize {
@@ -29,7 +30,7 @@ pub(crate) fn too_many(problem: &Problem, c: &Configuration) -> Option<Place>
 
 /// Whether instance 0 is not under the root type. One look-up.
 pub(crate) fn other_root(problem: &Problem, c: &Configuration) -> Option<Place>
-    ensures { FindsPlace (BreaksAt problem.now c.now 2) result }
+    ensures { FindsPlace (BreaksAt problem.now c.now other_root_code) result }
 {
     if is_instance_under(problem, c, problem.model().root, 0) {
         return None;
@@ -45,7 +46,7 @@ pub(crate) fn other_root(problem: &Problem, c: &Configuration) -> Option<Place>
 pub(crate) fn bad_count(problem: &Problem, c: &Configuration) -> Option<Place>
     requires valid { IsValid problem.now }
     requires spelled { IsTrue (is_spelled problem.now c.now) }
-    ensures { FindsPlace (BreaksAt problem.now c.now 9) result }
+    ensures { FindsPlace (BreaksAt problem.now c.now bad_count_code) result }
 {
     let item = place_of_bad_count(problem, c)?;
     Some(Place {

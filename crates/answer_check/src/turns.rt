@@ -3,6 +3,7 @@ ghost use Rattle.std.specs.Prelude.{◌≡◌, ◌<◌, ◌≤◌, ◌==◌, IsT
 ghost use Rattle.std.specs.Int.{bit_at};
 ghost use Rattle.std.specs.List.{fold};
 ghost use Rattle.config_value.specs.Spelled.{is_spelled};
+ghost use Rattle.answer_check.specs.Codes.{misnumbered_code};
 ghost use Rattle.answer_check.specs.steps.Finds.{BreaksAt, FindsPlace};
 ghost use Rattle.answer_check.specs.steps.Turns.{comes_in_turn as comes_in_turn_of, turns_after_link, turns_after_port, turns_after_instance, turns_in as turns_in_all};
 
@@ -67,7 +68,7 @@ impl Turns {
 /// The first instance that is out of turn. One pass over all links, and one over the instances.
 pub(crate) fn out_of_turn(problem: &Problem, c: &Configuration) -> Option<Place>
     requires { IsTrue (is_spelled problem.now c.now) }
-    ensures { FindsPlace (BreaksAt problem.now c.now 8) result }
+    ensures { FindsPlace (BreaksAt problem.now c.now misnumbered_code) result }
 {
     let turns = turns_in(c);
     for j in 1..c.len() as u32 {

@@ -8,6 +8,7 @@ ghost use Rattle.prod_model.specs.Taxonomy.{attribute_of, first_words};
 ghost use Rattle.prod_model.specs.Valid.{IsValid};
 ghost use Rattle.config_value.specs.Shaped.{is_in, has_value};
 ghost use Rattle.config_value.specs.Spelled.{is_spelled};
+ghost use Rattle.answer_check.specs.Codes.{bad_value_code};
 ghost use Rattle.answer_check.specs.steps.Finds.{BreaksAt, FindsItem, FindsPlace};
 
 use crate::first_words::first_words;
@@ -21,7 +22,7 @@ use prod_model::{AttrAt, Domain, Name, Problem};
 pub(crate) fn bad_value(problem: &Problem, c: &Configuration) -> Option<Place>
     requires valid { IsValid problem.now }
     requires spelled { IsTrue (is_spelled problem.now c.now) }
-    ensures { FindsPlace (BreaksAt problem.now c.now 3) result }
+    ensures { FindsPlace (BreaksAt problem.now c.now bad_value_code) result }
 {
     for i in 0..c.len() as u32 {
         if let Some(item) = bad_value_of(problem, c, i) {
@@ -35,7 +36,7 @@ fn bad_value_of(problem: &Problem, c: &Configuration, i: u32) -> Option<u32>
     requires valid { IsValid problem.now }
     requires spelled { IsTrue (is_spelled problem.now c.now) }
     requires instance { i < length c.now }
-    ensures { FindsItem (BreaksAt problem.now c.now 3 i) result }
+    ensures { FindsItem (BreaksAt problem.now c.now bad_value_code i) result }
 {
     let instance = c.get(i);
     let attributes = attributes_of(problem, instance.kind);

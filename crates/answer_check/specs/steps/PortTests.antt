@@ -6,14 +6,15 @@ use Rattle.prod_model.specs.declared.model.PortAt.{PortAt}
 use Rattle.prod_model.specs.Limits.{is_between}
 use Rattle.config_value.specs.declared.configuration.Instance.{Instance}
 use Rattle.config_value.specs.Value.{under, at_instance}
+use Rattle.answer_check.specs.Codes.{no_instance_code, off_target_code, bad_number_code}
 use Rattle.answer_check.specs.declared.links.PortTest.{PortTest}
 use Rattle.answer_check.specs.declared.links.PortTest.TheVariants.{Leads, OnTarget, Number}
 
 -- the number of the test
 abbrev pub code_of : PortTest → ℕ
-code_of Leads = 4
-code_of OnTarget = 5
-code_of Number = 6
+code_of Leads = no_instance_code
+code_of OnTarget = off_target_code
+code_of Number = bad_number_code
 
 -- there is an instance of that number, and it is not under the type
 abbrev pub is_off : Model → List Instance → ℕ → ℕ → Bool
