@@ -12,7 +12,7 @@ use Rattle.prod_model.specs.Forest.{ancestors}
 use Rattle.prod_model.specs.Taxonomy.{declarations_of, new_declarations}
 use Rattle.prod_model.proofs.NameLaws.{same_text_symm}
 use Rattle.prod_model.proofs.ForestLines.{IsLine}
-use Rattle.canonical_form.specs.FirstDeclared.{with_new, firsts_of}
+use Rattle.canonical_form.specs.steps.FirstDeclared.{with_new, firsts_of}
 
 -- a list passes a test turned round as it does as it stands
 list_any_flat_map_reverse : {X Y : Type 0} (p : Y → Bool) (f : X → List Y) (xs : List X) → list_any p (flat_map f (reverse xs)) ≡ list_any p (flat_map f xs)

@@ -2,7 +2,7 @@
 use Rattle.std.proofs.Common.{◌≡◌, ℕ, List, [], ◌∷◌, ◌++◌, sym, ap, append-nil}
 use Rattle.std.specs.Fmt.{decimal}
 use Rattle.std.specs.List.{flat_map}
-use Rattle.canonical_form.specs.Pieces.{numbers_piece}
+use Rattle.canonical_form.specs.steps.Pieces.{numbers_piece}
 
 -- a comma and the number, for each
 abbrev pub after_commas : List ℕ → List ℕ

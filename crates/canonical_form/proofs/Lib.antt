@@ -5,7 +5,6 @@ pub mod Entries
 pub mod Places
 pub mod TypeNames
 pub mod Joined
-pub mod Zipped
 pub mod LinePieces
 pub mod SpelledInstances
 pub mod Paths

@@ -4,6 +4,7 @@ use Rattle.std.specs.Prelude.{codes}
 use Rattle.std.specs.List.{list_all, flat_map, zip}
 use Rattle.std.specs.Fmt.{signed_decimal}
 use lib.Pointwise.{pointwise}
+use Rattle.std.proofs.lemmas.Simd.{map-map}
 use Rattle.prod_model.specs.declared.model.Model.{Model}
 use Rattle.prod_model.specs.declared.model.AttrAt.{AttrAt}
 use Rattle.prod_model.specs.declared.model.AttrDecl.{AttrDecl}
@@ -12,9 +13,8 @@ use Rattle.prod_model.specs.declared.model.Domain.{Domain}
 use Rattle.prod_model.specs.declared.model.Domain.TheVariants.{Range, Words}
 use Rattle.prod_model.specs.Taxonomy.{Named, words_of, first_words, attributes_of, attributes_at, ports_of}
 use Rattle.config_value.specs.Spelled.{is_spelled_value}
-use Rattle.canonical_form.proofs.SameNames.{map_map}
 use Rattle.canonical_form.specs.AnswerText.{word_at, attribute_text, port_text}
-use Rattle.canonical_form.specs.Pieces.{word_piece, value_piece, is_written_value, is_written, attribute_piece, numbers_piece, port_piece}
+use Rattle.canonical_form.specs.steps.Pieces.{word_piece, value_piece, is_written_value, is_written, attribute_piece, numbers_piece, port_piece}
 
 word_piece_at : (m : Model) (a : AttrAt) (v : ℤ) → word_piece (first_words m a.id) v ≡ word_at m a v
 word_piece_at m a (pos n) = refl
@@ -79,13 +79,13 @@ module _ {R : Type 0} (read : R → AttrDecl) (m : Model) (kind : ℕ) (firsts :
   pub attributes_text : (values : List ℤ)
       → flat_map attribute_piece (zip (map read firsts) (zip (attributes_at m kind) values)) ≡ flat_map (attribute_text m) (zip (attributes_of m.types kind) values)
   attributes_text values =
-      attribute_pieces m (map read firsts) (attributes_of m.types kind) values (map_map (λ d. d.name) read firsts ∙ names) (map_map (λ d. words_of d.domain) read firsts ∙ words)
+      attribute_pieces m (map read firsts) (attributes_of m.types kind) values (map-map (λ d. d.name) read firsts ∙ names) (map-map (λ d. words_of d.domain) read firsts ∙ words)
 
   pub attributes_written : (values : List ℤ) → pointwise (is_spelled_value m) (attributes_at m kind) values ≡ true
       → list_all is_written (zip (map read firsts) (zip (attributes_at m kind) values)) ≡ true
-  attributes_written values = all_written m (map read firsts) (attributes_at m kind) values (map_map (λ d. words_of d.domain) read firsts ∙ words)
+  attributes_written values = all_written m (map read firsts) (attributes_at m kind) values (map-map (λ d. words_of d.domain) read firsts ∙ words)
 
 pub ports_text : {R : Type 0} (read : R → PortDecl) (m : Model) (kind : ℕ) (firsts : List R) (links : List (List ℕ))
     → map (λ d. (read d).name) firsts ≡ map (λ e. e.name) (ports_of m.types kind)
     → flat_map port_piece (zip (map read firsts) links) ≡ flat_map port_text (zip (ports_of m.types kind) links)
-ports_text read m kind firsts links names = port_pieces (map read firsts) (ports_of m.types kind) links (map_map (λ d. d.name) read firsts ∙ names)
+ports_text read m kind firsts links names = port_pieces (map read firsts) (ports_of m.types kind) links (map-map (λ d. d.name) read firsts ∙ names)

@@ -8,10 +8,11 @@ use Rattle.prod_model.specs.declared.model.Model.{Model}
 use Rattle.prod_model.specs.Forest.{is_leaf}
 use Rattle.prod_model.specs.Taxonomy.{attributes_of, ports_of}
 use Rattle.config_value.specs.declared.configuration.Instance.{Instance}
-use Rattle.canonical_form.specs.AnswerParts.{Part, attribute_part, port_part, end_part, instance_parts, at_once, behind_number, behind_name}
+use Rattle.canonical_form.specs.declared.fault.PartCode.TheVariants.{Number, TypeName, LineEnd}
+use Rattle.canonical_form.specs.AnswerParts.{Part, attribute_part, port_part, end_part, instance_parts, at_once, behind_number, behind_name, number_part, type_part}
 use Rattle.canonical_form.specs.BadLine.{ends_there}
-use Rattle.canonical_form.specs.Grammar.{State, at_number, at_type, at_members, BeginsThen, Reads, Stops, number_part, type_part}
-use Rattle.canonical_form.specs.Reading.{Takes, TakesNone, type_text, AreValues, AreLinks, IsInstance, Refuses}
+use Rattle.canonical_form.specs.steps.Grammar.{State, at_number, at_type, at_members, BeginsThen, Reads, Stops}
+use Rattle.canonical_form.specs.steps.Reading.{Takes, TakesNone, type_text, AreValues, AreLinks, IsInstance, Refuses}
 use Rattle.canonical_form.specs.declared.fault.AnswerRefusal.{AnswerRefusal}
 use Rattle.canonical_form.specs.declared.fault.AnswerRefusal.TheVariants.{Line, Memory}
 use Rattle.canonical_form.proofs.Paths.{BeginsThen_append, Reads_one, Stops_then, Stops_here}
@@ -20,7 +21,7 @@ use Rattle.canonical_form.proofs.Rebuilt.{spelled_instance}
 
 -- ---- where a line stops
 
-pub number_stops : (m : Model) (n : ℕ) (bytes : List ℕ) → (0 < n → bytes ≢ []) → ((rest : List ℕ) → ¬ Takes (decimal n) behind_number bytes rest) → Stops m (at_number n) bytes (n + 2) 2
+pub number_stops : (m : Model) (n : ℕ) (bytes : List ℕ) → (0 < n → bytes ≢ []) → ((rest : List ℕ) → ¬ Takes (decimal n) behind_number bytes rest) → Stops m (at_number n) bytes (n + 2) Number
 number_stops m n bytes unended none =
     Stops_here m (at_number n) bytes (λ p t behind follows parts ends. none behind (record {
       parts = parts ∙ ap (λ (q : Part). q.text ++ behind) follows.1;
@@ -30,14 +31,14 @@ number_stops m n bytes unended none =
     same_number : (a b : ℕ) → at_number a ≡ at_number b → a ≡ b
     same_number a b same = cc
 
-pub type_stops : (m : Model) (n : ℕ) (bytes : List ℕ) → TakesNone (type_text m) (λ t. behind_name) (is_leaf m) bytes → Stops m (at_type n) bytes (n + 2) 3
+pub type_stops : (m : Model) (n : ℕ) (bytes : List ℕ) → TakesNone (type_text m) (λ t. behind_name) (is_leaf m) bytes → Stops m (at_type n) bytes (n + 2) TypeName
 type_stops m n bytes none =
     Stops_here m (at_type n) bytes (λ p t behind follows parts ends. none follows.0 behind follows.1 (record {
       parts = parts ∙ ap (λ (q : Part). q.text ++ behind) follows.2;
       ends = subst (λ (q : Part). IsTrue (ends_there q.end behind)) follows.2 ends;
     })) (λ k same. absurd (cc))
 
-pub end_stops : (m : Model) (n : ℕ) (bytes : List ℕ) → ((rest : List ℕ) → bytes ≢ 10 ∷ rest) → Stops m (at_members n [] []) bytes (n + 2) 6
+pub end_stops : (m : Model) (n : ℕ) (bytes : List ℕ) → ((rest : List ℕ) → bytes ≢ 10 ∷ rest) → Stops m (at_members n [] []) bytes (n + 2) LineEnd
 end_stops m n bytes none =
     Stops_here m (at_members n [] []) bytes (λ p t behind follows parts ends. none behind (parts ∙ ap (λ (q : Part). q.text ++ behind) follows.0)) (λ k same. absurd (cc))
 

@@ -5,9 +5,10 @@ use Rattle.std.proofs.lemmas.Bool.{true≢false}
 use Rattle.std.proofs.lemmas.List.Concat.{flat_map-append}
 use Rattle.prod_model.specs.declared.model.Model.{Model}
 use Rattle.config_value.specs.declared.configuration.Instance.{Instance}
+use Rattle.canonical_form.specs.declared.fault.PartCode.TheVariants.{Number}
 use Rattle.canonical_form.specs.AnswerParts.{instance_parts}
-use Rattle.canonical_form.specs.Grammar.{at_number, BeginsThen, Reads, Stops, is_spelled_instance}
-use Rattle.canonical_form.specs.Reading.{IsInstance, AreInstances}
+use Rattle.canonical_form.specs.steps.Grammar.{at_number, BeginsThen, Reads, Stops, is_spelled_instance}
+use Rattle.canonical_form.specs.steps.Reading.{IsInstance, AreInstances}
 use Rattle.canonical_form.proofs.Paths.{BeginsThen_append, Stops_then, Stops_here}
 use Rattle.canonical_form.proofs.SpelledPaths.{HasSpelledInstances, lines_lead}
 use Rattle.canonical_form.proofs.MemberSteps.{all_push}
@@ -51,13 +52,13 @@ instances_read m n bytes c rest has =
     record { read = flat_map (instance_parts m) (enumerate_from 0 c); leads = lines_lead m 0 c n has.spelled (omega arith) has.few; begins = has.begins }
 
 -- behind the last number that there can be something stands
-pub past_stops : (m : Model) (bytes : List ℕ) → bytes ≢ [] → Stops m (at_number 64) bytes 66 2
+pub past_stops : (m : Model) (bytes : List ℕ) → bytes ≢ [] → Stops m (at_number 64) bytes 66 Number
 past_stops m bytes some = Stops_here m (at_number 64) bytes (λ p t behind follows parts ends. absurd (let none = follows.0 in omega arith)) (λ k same. some)
 
-pub instances_stop : (m : Model) (n : ℕ) (bytes : List ℕ) (c : List Instance) (rest : List ℕ) → n ≡ 64 → HasInstances m n bytes c rest → rest ≢ [] → Stops m (at_number 0) bytes 66 2
+pub instances_stop : (m : Model) (n : ℕ) (bytes : List ℕ) (c : List Instance) (rest : List ℕ) → n ≡ 64 → HasInstances m n bytes c rest → rest ≢ [] → Stops m (at_number 0) bytes 66 Number
 instances_stop m n bytes c rest full has some =
     let reads = subst (λ k. Reads m (at_number 0) bytes (at_number k) rest) full (instances_read m n bytes c rest has) in
-    Stops_then m (at_number 0) (at_number 64) bytes rest 66 2 reads (past_stops m rest some)
+    Stops_then m (at_number 0) (at_number 64) bytes rest 66 Number reads (past_stops m rest some)
 
 pub instances_all : (m : Model) (n : ℕ) (bytes : List ℕ) (c : List Instance) (rest : List ℕ) → 1 ≤ n → HasInstances m n bytes c rest → rest ≡ [] → AreInstances m bytes c
 instances_all m n bytes c rest some has ended =

@@ -7,10 +7,10 @@ use Rattle.std.proofs.lemmas.Bool.{false≢true}
 use Rattle.std.proofs.lemmas.Bool.Decides.{nat_tests}
 use Rattle.std.proofs.lemmas.Fmt.{decimal_injective}
 use Rattle.config_value.specs.Spelled.{is_spelled_links}
-use Rattle.canonical_form.specs.Pieces.{numbers_piece}
+use Rattle.canonical_form.specs.steps.Pieces.{numbers_piece}
 use Rattle.canonical_form.specs.AnswerParts.{behind_number, behind_links, links_end}
 use Rattle.canonical_form.specs.BadLine.{ends_there}
-use Rattle.canonical_form.specs.Reading.{Takes, TakesNone, AddsLinks, ascends_from, begins_with_digit}
+use Rattle.canonical_form.specs.steps.Reading.{Takes, TakesNone, AddsLinks, ascends_from, begins_with_digit}
 use Rattle.canonical_form.proofs.Tokens.{token_unique, decimal_digits}
 
 comma_test : (b : ℕ) → (b == 44) ≡ true → b ≡ 44

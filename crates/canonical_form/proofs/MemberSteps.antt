@@ -12,12 +12,13 @@ use Rattle.prod_model.specs.declared.model.AttrDecl.{AttrDecl}
 use Rattle.prod_model.specs.declared.model.PortDecl.{PortDecl}
 use Rattle.prod_model.specs.Taxonomy.{Named, words_of, first_words, attributes_of, attributes_at, ports_of}
 use Rattle.config_value.specs.Spelled.{is_spelled_value, is_spelled_links}
+use Rattle.canonical_form.specs.declared.fault.PartCode.TheVariants.{Attribute, Port}
 use Rattle.canonical_form.specs.AnswerText.{attribute_text, port_text}
 use Rattle.canonical_form.specs.AnswerParts.{Part, value_end, links_end, attribute_part, port_part}
 use Rattle.canonical_form.specs.BadLine.{ends_there}
-use Rattle.canonical_form.specs.Pieces.{is_written, is_written_value, attribute_piece, port_piece, numbers_piece}
-use Rattle.canonical_form.specs.Grammar.{at_members, Leads, BeginsThen, IsStuck, Reads, Stops}
-use Rattle.canonical_form.specs.Reading.{Takes, TakesNone}
+use Rattle.canonical_form.specs.steps.Pieces.{is_written, is_written_value, attribute_piece, port_piece, numbers_piece}
+use Rattle.canonical_form.specs.steps.Grammar.{at_members, Leads, BeginsThen, IsStuck, Reads, Stops}
+use Rattle.canonical_form.specs.steps.Reading.{Takes, TakesNone}
 use Rattle.canonical_form.proofs.Paths.{BeginsThen_append, Stops_then, Stops_here}
 use Rattle.canonical_form.proofs.LinePieces.{attribute_piece_text}
 use Rattle.canonical_form.proofs.LookUps.{same_item}
@@ -121,10 +122,10 @@ attribute_stuck m n e es ps bytes none p t behind follows parts ends =
 
 pub values_stop : (m : Model) (n : ℕ) (es : List (Named AttrAt)) (ps : List (Named PortAt)) (k : ℕ) (e : Named AttrAt) (bytes : List ℕ) (values : List ℤ) (rest : List ℕ)
     → HasValues m n es k bytes values rest → slice_get es k ≡ Some e
-    → TakesNone (λ v. attribute_text m (e, v)) (λ v. value_end e.what) (is_spelled_value m e.what) rest → Stops m (at_members n es ps) bytes (n + 2) 4
+    → TakesNone (λ v. attribute_text m (e, v)) (λ v. value_end e.what) (is_spelled_value m e.what) rest → Stops m (at_members n es ps) bytes (n + 2) Attribute
 values_stop m n es ps k e bytes values rest has at none =
     let reads = subst (λ xs. Reads m (at_members n es ps) bytes (at_members n xs ps) rest) (drop_next es k e at) (values_read m n es ps k bytes values rest has) in
-    Stops_then m (at_members n es ps) (at_members n (e ∷ drop (suc k) es) ps) bytes rest (n + 2) 4 reads
+    Stops_then m (at_members n es ps) (at_members n (e ∷ drop (suc k) es) ps) bytes rest (n + 2) Attribute reads
     (Stops_here m (at_members n (e ∷ drop (suc k) es) ps) rest (attribute_stuck m n e (drop (suc k) es) ps rest none) (λ j same. absurd (cc)))
 
 -- ---- an attribute and its first declaration
@@ -227,10 +228,10 @@ port_stuck m n q qs bytes none p t behind follows parts ends =
     })
 
 pub links_stop : (m : Model) (n : ℕ) (qs : List (Named PortAt)) (k : ℕ) (q : Named PortAt) (bytes : List ℕ) (links : List (List ℕ)) (rest : List ℕ)
-    → HasLinks n qs k bytes links rest → slice_get qs k ≡ Some q → TakesNone (λ js. port_text (q, js)) links_end is_spelled_links rest → Stops m (at_members n [] qs) bytes (n + 2) 5
+    → HasLinks n qs k bytes links rest → slice_get qs k ≡ Some q → TakesNone (λ js. port_text (q, js)) links_end is_spelled_links rest → Stops m (at_members n [] qs) bytes (n + 2) Port
 links_stop m n qs k q bytes links rest has at none =
     let reads = subst (λ xs. Reads m (at_members n [] qs) bytes (at_members n [] xs) rest) (drop_next qs k q at) (links_read m n qs k bytes links rest has) in
-    Stops_then m (at_members n [] qs) (at_members n [] (q ∷ drop (suc k) qs)) bytes rest (n + 2) 5 reads
+    Stops_then m (at_members n [] qs) (at_members n [] (q ∷ drop (suc k) qs)) bytes rest (n + 2) Port reads
     (Stops_here m (at_members n [] (q ∷ drop (suc k) qs)) rest (port_stuck m n q (drop (suc k) qs) rest none) (λ j same. absurd (cc)))
 
 -- ---- a port and its first declaration
@@ -300,7 +301,7 @@ values_next m n es k d a bytes values rest v after new e has written takes pushe
 
 pub values_refused : (m : Model) (n : ℕ) (es : List (Named AttrAt)) (ps : List (Named PortAt)) (k : ℕ) (d : AttrDecl) (a : AttrAt) (bytes : List ℕ) (values : List ℤ) (rest : List ℕ)
     → IsEntry m es k d a → HasValues m n es k bytes values rest → TakesNone (λ v. attribute_piece (d, (a, v))) (λ v. value_end a) (λ v. is_written (d, (a, v))) rest
-    → Stops m (at_members n es ps) bytes (n + 2) 4
+    → Stops m (at_members n es ps) bytes (n + 2) Attribute
 values_refused m n es ps k d a bytes values rest e has none =
     let none' = subst (λ (b : AttrAt). TakesNone (λ v. attribute_piece (d, (b, v))) (λ v. value_end b) (λ v. is_written (d, (b, v))) rest) (sym e.what) none in
     values_stop m n es ps k e.entry bytes values rest has e.at (entry_takes_none m d e.entry rest e.name e.words none')
@@ -321,5 +322,5 @@ links_next n qs k d bytes links rest js after new p has takes pushed =
     (links_more n qs k p.port bytes links rest js after has p.at takes.0 (port_takes d p.port js rest after p.name takes.1))
 
 pub links_refused : (m : Model) (n : ℕ) (qs : List (Named PortAt)) (k : ℕ) (d : PortDecl) (bytes : List ℕ) (links : List (List ℕ)) (rest : List ℕ)
-    → IsPort qs k d → HasLinks n qs k bytes links rest → TakesNone (λ js. port_piece (d, js)) links_end is_spelled_links rest → Stops m (at_members n [] qs) bytes (n + 2) 5
+    → IsPort qs k d → HasLinks n qs k bytes links rest → TakesNone (λ js. port_piece (d, js)) links_end is_spelled_links rest → Stops m (at_members n [] qs) bytes (n + 2) Port
 links_refused m n qs k d bytes links rest p has none = links_stop m n qs k p.port bytes links rest has p.at (port_takes_none d p.port rest p.name none)

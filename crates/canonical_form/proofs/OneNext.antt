@@ -20,13 +20,14 @@ use Rattle.prod_model.specs.Forest.{is_leaf}
 use Rattle.prod_model.specs.Taxonomy.{Named, attributes_of, ports_of, first_words}
 use Rattle.prod_model.specs.Valid.{IsValid}
 use Rattle.config_value.specs.Spelled.{is_spelled_value, is_spelled_links, is_word_place}
+use Rattle.canonical_form.specs.declared.fault.PartCode.TheVariants.{TypeName, Attribute, Port}
 use Rattle.canonical_form.specs.AnswerText.{word_at, value_text, type_name}
-use Rattle.canonical_form.specs.AnswerParts.{Part, belongs, behind_number, behind_name, behind_word, behind_links, value_end, links_end, attribute_part, port_part}
+use Rattle.canonical_form.specs.AnswerParts.{Part, belongs, behind_number, behind_name, behind_word, behind_links, value_end, links_end, attribute_part, port_part, type_part}
 use Rattle.canonical_form.specs.BadLine.{ends_there}
-use Rattle.canonical_form.specs.Grammar.{State, at_header, at_header_end, at_number, at_type, at_members, Follows, type_part}
+use Rattle.canonical_form.specs.steps.Grammar.{State, at_header, at_header_end, at_number, at_type, at_members, Follows}
 use Rattle.canonical_form.proofs.Tokens.{token_unique, decimal_digits, decimal_cons}
 use Rattle.canonical_form.proofs.ModelTexts.{leaf_is_type, type_bytes, type_of_name, word_at_bytes}
-use Rattle.canonical_form.specs.Reading.{end_of_domain}
+use Rattle.canonical_form.specs.steps.Reading.{end_of_domain}
 
 -- ---- one state
 
@@ -131,7 +132,7 @@ links_unique n q [] (k ∷ ks) x y js_in ks_in ends_x ends_y same = let few = al
 links_unique n q (j ∷ js) [] x y js_in ks_in ends_x ends_y same = let few = all_few (j ∷ js) js_in in absurd (no_link j js y x (grind (arith)) ends_y (sym same))
 links_unique n q (j ∷ js) (k ∷ ks) x y js_in ks_in ends_x ends_y same =
     let text = (token_unique behind_links (links_text (j ∷ js)) (links_text (k ∷ ks)) x y (links_bytes (j ∷ js) (all_few (j ∷ js) js_in)) (links_bytes (k ∷ ks) (all_few (k ∷ ks) ks_in)) ends_x ends_y same).0 in
-    ap (λ t. record { line = n + 2; code = 5; text = codes " " ++ q.name ++ codes ":" ++ t; end = behind_links }) text
+    ap (λ t. record { line = n + 2; code = Port; text = codes " " ++ q.name ++ codes ":" ++ t; end = behind_links }) text
 
 -- ---- one part
 
@@ -148,7 +149,7 @@ type_unique : (m : Model) (n t u : ℕ) (bytes : List ℕ) → IsValid m → Beg
 type_unique m n t u bytes valid first second =
     let same : codes " " ++ (type_name m t ++ first.behind) ≡ codes " " ++ (type_name m u ++ second.behind) = sym first.text ∙ second.text in
     let names = token_unique behind_name (type_name m t) (type_name m u) first.behind second.behind (type_bytes m t valid) (type_bytes m u valid) first.ends second.ends (append_cancel_left (codes " ") _ _ same) in
-    ap (λ name. record { line = n + 2; code = 3; text = codes " " ++ name; end = behind_name }) names.0
+    ap (λ name. record { line = n + 2; code = TypeName; text = codes " " ++ name; end = behind_name }) names.0
 
 attribute_unique : (m : Model) (n : ℕ) (a : Named AttrAt) (v w : ℤ) (bytes : List ℕ) → IsValid m → IsTrue (is_spelled_value m a.what v) → IsTrue (is_spelled_value m a.what w)
     → Begins (attribute_part m (n + 2) (a, v)) bytes → Begins (attribute_part m (n + 2) (a, w)) bytes → attribute_part m (n + 2) (a, v) ≡ attribute_part m (n + 2) (a, w)
@@ -157,7 +158,7 @@ attribute_unique m n a v w bytes valid v_in w_in first second =
     let same : front ++ (value_text m a.what v ++ first.behind) ≡ front ++ (value_text m a.what w ++ second.behind) =
     sym (append_assoc front (value_text m a.what v) first.behind) ∙ sym first.text ∙ second.text ∙ append_assoc front (value_text m a.what w) second.behind in
     let values = value_unique m a.what a.what.domain v w first.behind second.behind valid v_in w_in first.ends second.ends (append_cancel_left front _ _ same) in
-    ap (λ value. record { line = n + 2; code = 4; text = codes " " ++ a.name ++ codes "=" ++ value; end = value_end a.what }) values
+    ap (λ value. record { line = n + 2; code = Attribute; text = codes " " ++ a.name ++ codes "=" ++ value; end = value_end a.what }) values
 
 port_unique : (n : ℕ) (q : Named PortAt) (js ks bytes : List ℕ) → IsTrue (is_spelled_links js) → IsTrue (is_spelled_links ks)
     → Begins (port_part (n + 2) (q, js)) bytes → Begins (port_part (n + 2) (q, ks)) bytes → port_part (n + 2) (q, js) ≡ port_part (n + 2) (q, ks)

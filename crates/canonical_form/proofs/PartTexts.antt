@@ -10,10 +10,11 @@ use Rattle.prod_model.specs.declared.model.PortAt.{PortAt}
 use Rattle.prod_model.specs.Taxonomy.{Named, attributes_of, ports_of}
 use Rattle.config_value.specs.declared.configuration.Instance.{Instance}
 use Rattle.config_value.specs.Spelled.{is_spelled}
+use Rattle.canonical_form.specs.declared.fault.PartCode.TheVariants.{Number}
 use Rattle.canonical_form.specs.AnswerText.{answer_text, instance_text, attribute_text, port_text, value_text, type_name, line_end}
 use Rattle.canonical_form.specs.AnswerParts.{Part, End, at_once, behind_number, behind_name, behind_word, behind_links, attribute_part, port_part, end_part, instance_parts, parts_of}
 use Rattle.canonical_form.specs.BadLine.{ends_there}
-use Rattle.canonical_form.specs.Grammar.{State, at_header, at_header_end, at_number, at_type, at_members, Follows, Leads, BeginsThen}
+use Rattle.canonical_form.specs.steps.Grammar.{State, at_header, at_header_end, at_number, at_type, at_members, Follows, Leads, BeginsThen}
 use Rattle.canonical_form.proofs.Tokens.{decimal_cons}
 use Rattle.canonical_form.proofs.SpelledPaths.{parts_lead}
 
@@ -31,7 +32,7 @@ record HasFirst (p : Part) : Type 0 where
 first_of_part : (p q : Part) → p ≡ q → HasFirst q → HasFirst p
 first_of_part p q same first = subst HasFirst (sym same) first
 
-number_first : (n : ℕ) → n < 64 → HasFirst (record { line = n + 2; code = 2; text = decimal n; end = behind_number })
+number_first : (n : ℕ) → n < 64 → HasFirst (record { line = n + 2; code = Number; text = decimal n; end = behind_number })
 number_first n few = let d = decimal_cons n (omega arith) in record { byte = d.0; others = d.1; text = d.2 }
 
 Follows_first : (m : Model) (s : State) (p : Part) (t : State) → Follows m s p t → HasFirst p

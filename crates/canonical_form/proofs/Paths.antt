@@ -3,9 +3,10 @@ use Rattle.std.proofs.Common.{◌≡◌, ℕ, suc, List, [], ◌∷◌, ◌++◌
 use Rattle.std.specs.Prelude.{IsTrue}
 use Rattle.std.proofs.lemmas.List.{append_cancel_left}
 use Rattle.prod_model.specs.declared.model.Model.{Model}
+use Rattle.canonical_form.specs.declared.fault.PartCode.{PartCode}
 use Rattle.canonical_form.specs.AnswerParts.{Part}
 use Rattle.canonical_form.specs.BadLine.{ends_there, BeginsWith}
-use Rattle.canonical_form.specs.Grammar.{State, at_number, Follows, Leads, BeginsThen, IsStuck, Reads, Stops, line_of, code_of}
+use Rattle.canonical_form.specs.steps.Grammar.{State, at_number, Follows, Leads, BeginsThen, IsStuck, Reads, Stops, line_of, code_of}
 
 pub Leads_append : (m : Model) (s t u : State) (ps qs : List Part) → Leads m s ps t → Leads m t qs u → Leads m s (ps ++ qs) u
 Leads_append m s t u [] qs first second = subst (λ v. Leads m v qs u) (sym first) second
@@ -41,7 +42,7 @@ Reads_then m s t u bytes middle rest first second = record {
   begins = BeginsThen_append first.read second.read bytes middle rest first.begins second.begins;
 }
 
-pub Stops_then : (m : Model) (s t : State) (bytes middle : List ℕ) (line code : ℕ) → Reads m s bytes t middle → Stops m t middle line code → Stops m s bytes line code
+pub Stops_then : (m : Model) (s t : State) (bytes middle : List ℕ) (line : ℕ) (code : PartCode) → Reads m s bytes t middle → Stops m t middle line code → Stops m s bytes line code
 Stops_then m s t bytes middle line code first second = record {
   state = second.state;
   rest = second.rest;

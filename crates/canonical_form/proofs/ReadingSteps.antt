@@ -20,7 +20,7 @@ use Rattle.prod_model.specs.Limits
 use Rattle.prod_model.specs.Limits.{is_within}
 use Rattle.canonical_form.specs.AnswerParts.{End, belongs, behind_number}
 use Rattle.canonical_form.specs.BadLine.{ends_there}
-use Rattle.canonical_form.specs.Reading.{Takes, IsToken, without_sign, is_link_from}
+use Rattle.canonical_form.specs.steps.Reading.{Takes, IsToken, without_sign, is_link_from}
 use Rattle.canonical_form.proofs.Tokens.{token_unique, decimal_digits}
 use Rattle.canonical_form.proofs.OneNext.{within_pos, within_negsuc, sign_apart}
 use Rattle.prod_model.proofs.NameLaws.{same_text_refl}

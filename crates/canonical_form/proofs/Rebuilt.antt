@@ -11,8 +11,8 @@ use Rattle.prod_model.specs.Forest.{is_leaf}
 use Rattle.prod_model.specs.Taxonomy.{Named, attributes_of, ports_of, attributes_at}
 use Rattle.config_value.specs.declared.configuration.Instance.{Instance}
 use Rattle.config_value.specs.Spelled.{is_spelled_value, is_spelled_links}
-use Rattle.canonical_form.specs.AnswerParts.{Part, attribute_part, port_part, end_part, header_part, instance_parts, parts_of}
-use Rattle.canonical_form.specs.Grammar.{State, at_header, at_header_end, at_number, at_type, at_members, Leads, number_part, type_part, is_spelled_instance}
+use Rattle.canonical_form.specs.AnswerParts.{Part, attribute_part, port_part, end_part, header_part, instance_parts, parts_of, number_part, type_part}
+use Rattle.canonical_form.specs.steps.Grammar.{State, at_header, at_header_end, at_number, at_type, at_members, Leads, is_spelled_instance}
 use Rattle.canonical_form.proofs.SpelledPaths.{HasSpelledInstances, length_map_what, length_pointwise}
 
 abbrev pub lines_from : Model → ℕ → List Instance → List Part

@@ -10,7 +10,7 @@ use Rattle.prod_model.specs.Taxonomy.{attributes_at, ports_at}
 use Rattle.config_value.specs.declared.configuration.Instance.{Instance}
 use Rattle.config_value.specs.Shaped.{has_leaf_types}
 use Rattle.config_value.specs.Spelled.{is_spelled_value, is_spelled_links, is_spelled}
-use Rattle.canonical_form.specs.Written.{IsWritten}
+use Rattle.canonical_form.specs.steps.Written.{IsWritten}
 use Rattle.base_laws.proofs.Tests.{list_all_at}
 
 -- there are at most 64 instances

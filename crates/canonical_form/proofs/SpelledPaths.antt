@@ -13,7 +13,7 @@ use Rattle.config_value.specs.declared.configuration.Instance.{Instance}
 use Rattle.config_value.specs.Shaped.{has_leaf_types}
 use Rattle.config_value.specs.Spelled.{is_spelled, is_spelled_value, is_spelled_links}
 use Rattle.canonical_form.specs.AnswerParts.{attribute_part, port_part, end_part, instance_parts, parts_of}
-use Rattle.canonical_form.specs.Grammar.{at_header, at_header_end, at_number, at_type, at_members, Leads, is_spelled_instance}
+use Rattle.canonical_form.specs.steps.Grammar.{at_header, at_header_end, at_number, at_type, at_members, Leads, is_spelled_instance}
 use Rattle.canonical_form.proofs.Paths.{Leads_append}
 
 -- ---- a list of instances, instance by instance

@@ -22,7 +22,7 @@ use Rattle.prod_model.specs.Forest.{line, line_within, ancestors}
 use Rattle.prod_model.specs.Taxonomy.{Named, declarations_of, new_declarations, all_new_declarations, first_id, new_entries, kept_entry, extended_entries, attributes_of, made_attribute, words_of, first_words}
 use Rattle.prod_model.specs.Valid.{IsValid, has_narrowings, attribute_narrows, port_narrows, narrows_domain, inherited, has_few_words}
 use Rattle.config_value.specs.Spelled.{is_spelled_value, is_word_place}
-use Rattle.canonical_form.specs.FirstDeclared.{with_new, first_declarations}
+use Rattle.canonical_form.specs.steps.FirstDeclared.{with_new, first_declarations}
 use Rattle.base_laws.proofs.Tests.{list_all_at, list_all_from, list_any_map}
 use Rattle.prod_model.proofs.NameLaws.{same_text_refl}
 use Rattle.prod_model.proofs.ForestLines.{no_cycle, line_stays, IsLine, line_IsLine, line_within_types}

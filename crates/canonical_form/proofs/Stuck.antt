@@ -6,9 +6,10 @@ use Rattle.prod_model.specs.declared.model.Model.{Model}
 use Rattle.prod_model.specs.Valid.{IsValid}
 use Rattle.config_value.specs.declared.configuration.Instance.{Instance}
 use Rattle.config_value.specs.Spelled.{is_spelled}
+use Rattle.canonical_form.specs.declared.fault.PartCode.{PartCode}
 use Rattle.canonical_form.specs.AnswerParts.{Part, parts_of}
 use Rattle.canonical_form.specs.BadLine.{BeginsWith, IsAnswerOf}
-use Rattle.canonical_form.specs.Grammar.{State, at_header, at_number, Follows, Leads, BeginsThen, Stops}
+use Rattle.canonical_form.specs.steps.Grammar.{State, at_header, at_number, Follows, Leads, BeginsThen, Stops}
 use Rattle.canonical_form.proofs.Paths.{BeginsWith_behind}
 use Rattle.canonical_form.proofs.OneNext.{Begins, Follows_state, Follows_part}
 use Rattle.canonical_form.proofs.SpelledPaths.{spelled_instances, parts_lead}
@@ -44,7 +45,7 @@ goes_on m s t u (p ∷ ps) (q ∷ qs) bytes rest valid leads begins all_lead all
     goes_on m leads.0 t u ps qs begins.0 rest valid leads.2 begins.3 (subst (λ v. Leads m v qs u) state all_lead.2) (subst (λ b. BeginsThen qs b []) behind all_begin.3)
 
 -- no answer goes on with a part
-pub goes_no_further : (m : Model) (bytes : List ℕ) (line code : ℕ) → IsValid m → (stops : Stops m at_header bytes line code)
+pub goes_no_further : (m : Model) (bytes : List ℕ) (line : ℕ) (code : PartCode) → IsValid m → (stops : Stops m at_header bytes line code)
     → (d : List Instance) (p : Part) (later : List Part) → IsTrue (is_spelled m d) → parts_of m d ≡ stops.reads.read ++ p ∷ later
     → ¬ BeginsWith (stops.reads.read ++ p ∷ []) bytes
 goes_no_further m bytes line code valid stops d p later spelled parts begins =
@@ -53,17 +54,17 @@ goes_no_further m bytes line code valid stops d p later spelled parts begins =
     let next = BeginsWith_behind stops.reads.read (p ∷ []) bytes stops.rest stops.reads.begins begins in
     stops.stuck p on.0 next.0 on.1 next.1 next.2
 
-ends_or_goes : (m : Model) (line code k : ℕ) (bytes : List ℕ) (stops : Stops m at_header bytes line code) → 1 ≤ k
+ends_or_goes : (m : Model) (line : ℕ) (code : PartCode) (k : ℕ) (bytes : List ℕ) (stops : Stops m at_header bytes line code) → 1 ≤ k
     → (later : List Part) → Leads m stops.state later (at_number k) → BeginsThen later stops.rest [] → ⊥
 ends_or_goes m line code zero bytes stops some later leads begins = absurd (omega arith)
 ends_or_goes m line code (suc k) bytes stops some [] leads begins = stops.unended k leads begins
 ends_or_goes m line code (suc k) bytes stops some (p ∷ later) leads begins = stops.stuck p leads.0 begins.0 leads.1 begins.1 begins.2
 
-not_on : (m : Model) (line code k : ℕ) (bytes : List ℕ) (stops : Stops m at_header bytes line code) → 1 ≤ k → GoesOn m stops.state (at_number k) stops.rest → ⊥
+not_on : (m : Model) (line : ℕ) (code : PartCode) (k : ℕ) (bytes : List ℕ) (stops : Stops m at_header bytes line code) → 1 ≤ k → GoesOn m stops.state (at_number k) stops.rest → ⊥
 not_on m line code k bytes stops some on = ends_or_goes m line code k bytes stops some on.later on.leads on.begins
 
 -- the bytes are no answer
-pub no_answer : (m : Model) (bytes : List ℕ) (line code : ℕ) → IsValid m → (stops : Stops m at_header bytes line code) → (d : List Instance) → ¬ IsAnswerOf m bytes d
+pub no_answer : (m : Model) (bytes : List ℕ) (line : ℕ) (code : PartCode) → IsValid m → (stops : Stops m at_header bytes line code) → (d : List Instance) → ¬ IsAnswerOf m bytes d
 no_answer m bytes line code valid stops d answer =
     let begins = subst (λ b. BeginsThen (parts_of m d) b []) (sym answer.1) (parts_begin m d answer.0) in
     let on = goes_on m at_header stops.state (at_number (length d)) stops.reads.read (parts_of m d) bytes stops.rest valid stops.reads.leads stops.reads.begins (parts_lead m d answer.0) begins in

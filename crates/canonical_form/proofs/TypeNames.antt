@@ -4,6 +4,7 @@ use Rattle.std.specs.Prelude.{slice_get}
 use Rattle.std.specs.Option.{option_map_or}
 use Rattle.std.specs.List.{list_all, flat_map}
 use Rattle.std.proofs.lemmas.List.Folds.{list_any-append}
+use Rattle.std.proofs.lemmas.Simd.{map-map}
 use Rattle.prod_model.specs.declared.model.Model.{Model}
 use Rattle.prod_model.specs.declared.model.TypeDecl.{TypeDecl}
 use Rattle.prod_model.specs.declared.model.Rule.{Rule}
@@ -14,8 +15,7 @@ use Rattle.prod_model.specs.Names.{same_text, is_distinct}
 use Rattle.prod_model.specs.Forest.{line}
 use Rattle.prod_model.specs.Taxonomy.{Named, new_declarations, all_new_declarations, attributes_of, ports_of, attributes_at, words_of, first_words, made_attribute, made_port}
 use Rattle.prod_model.specs.Valid.{IsValid, has_distinct_names}
-use Rattle.canonical_form.specs.FirstDeclared.{first_declarations}
-use Rattle.canonical_form.proofs.SameNames.{map_map}
+use Rattle.canonical_form.specs.steps.FirstDeclared.{first_declarations}
 use Rattle.prod_model.proofs.ForestLines.{no_cycle, line_IsLine}
 use Rattle.canonical_form.proofs.Firsts.{HasDistinct, firsts_of_line}
 use Rattle.canonical_form.proofs.Entries.{names_entries_of}
@@ -87,7 +87,7 @@ attribute_words m t valid =
     let firsts = flat_map (new_declarations (λ d. d.attributes) (λ d. d.name) m.types) (reverse (line m.types t)) in
     let place = λ (e : Named AttrAt). slice_get all e.what.id in
     ap (map (λ d. words_of d.domain)) (first_declarations_new (λ d. d.attributes) (λ d. d.name) m t valid (names_are_distinct m valid).0)
-    ∙ sym (map_map word_list (λ d. Some d) firsts)
+    ∙ sym (map-map word_list (λ d. Some d) firsts)
     ∙ ap (map word_list) (sym (places_entries_of (λ d. d.attributes) (λ d. d.name) made_attribute (λ d a. made_attribute a.id d) (λ a. a.id) (λ id d. refl) (λ d a. refl) m.types t))
-    ∙ map_map word_list place (attributes_of m.types t)
-    ∙ sym (map_map (λ a. first_words m a.id) (λ e. e.what) (attributes_of m.types t))
+    ∙ map-map word_list place (attributes_of m.types t)
+    ∙ sym (map-map (λ a. first_words m a.id) (λ e. e.what) (attributes_of m.types t))

@@ -13,7 +13,7 @@ use Rattle.prod_model.specs.Forest.{is_leaf}
 use Rattle.prod_model.specs.Valid.{IsValid}
 use Rattle.canonical_form.specs.AnswerText.{type_name}
 use Rattle.canonical_form.specs.AnswerParts.{behind_name}
-use Rattle.canonical_form.specs.Reading.{Takes, IsToken, type_text}
+use Rattle.canonical_form.specs.steps.Reading.{Takes, IsToken, type_text}
 use Rattle.canonical_form.proofs.LookUps.{same_item, position_hit, position_miss}
 use Rattle.prod_model.proofs.NameLaws.{same_text_refl}
 use Rattle.canonical_form.proofs.ModelTexts.{leaf_is_type, type_bytes, type_of_name}

@@ -9,12 +9,14 @@ use Rattle.prod_model.specs.Taxonomy.{Named, attributes_of, ports_of}
 use Rattle.prod_model.specs.Valid.{IsValid}
 use Rattle.config_value.specs.declared.configuration.Instance.{Instance}
 use Rattle.config_value.specs.Spelled.{is_spelled}
-use Rattle.canonical_form.specs.AnswerParts.{Part, header_part, end_part, attribute_part, port_part}
-use Rattle.canonical_form.specs.BadLine.{IsNext, inside, past_last, IsFirstBadLine}
-use Rattle.canonical_form.specs.Grammar.{State, at_header, at_header_end, at_number, at_type, at_members, Follows, Leads, number_part, type_part, line_of, code_of, Stops}
+use Rattle.canonical_form.specs.declared.fault.PartCode.{PartCode}
+use Rattle.canonical_form.specs.declared.fault.PartCode.TheVariants.{Number}
+use Rattle.canonical_form.specs.AnswerParts.{Part, header_part, end_part, attribute_part, port_part, number_part, type_part}
+use Rattle.canonical_form.specs.BadLine.{IsNext, inside, past_last, IsFirstBadLine, IsRefusal}
+use Rattle.canonical_form.specs.steps.Grammar.{State, at_header, at_header_end, at_number, at_type, at_members, Follows, Leads, line_of, code_of, Stops}
 use Rattle.canonical_form.specs.declared.fault.AnswerRefusal.{AnswerRefusal}
 use Rattle.canonical_form.specs.declared.fault.AnswerRefusal.TheVariants.{Line, Memory}
-use Rattle.canonical_form.specs.Reading.{Refuses, IsRefusal}
+use Rattle.canonical_form.specs.steps.Reading.{Refuses}
 use Rattle.canonical_form.proofs.Paths.{Leads_append, BeginsWith_from_then}
 use Rattle.canonical_form.proofs.SpelledPaths.{spelled_list}
 use Rattle.canonical_form.proofs.Rebuilt.{rebuilt_all}
@@ -99,7 +101,7 @@ finish_header : (m : Model) → IsValid m → Finishes m at_header
 finish_header m valid = finish_before m at_header at_header_end header_part (refl, refl) refl refl (finish_header_end m valid)
 
 -- an answer that has the parts that were read, and what is next in it
-record Continues (m : Model) (read : List Part) (line code : ℕ) : Type 0 where
+record Continues (m : Model) (read : List Part) (line : ℕ) (code : PartCode) : Type 0 where
   c : List Instance
   spelled : IsTrue (is_spelled m c)
   next : IsNext m c read line code
@@ -117,7 +119,7 @@ continued m s read leads finishes =
     }
 
 -- behind 64 instances there is no more
-continued_past : (m : Model) (n : ℕ) (read : List Part) → n ≡ 64 → Leads m at_header read (at_number n) → Continues m read (n + 2) 2
+continued_past : (m : Model) (n : ℕ) (read : List Part) → n ≡ 64 → Leads m at_header read (at_number n) → Continues m read (n + 2) Number
 continued_past m n read full leads =
     let all = rebuilt_all m n read leads in
     let counted = all.count in
@@ -138,7 +140,7 @@ continues m (at_type n) read valid can leads = continued m (at_type n) read lead
 continues m (at_members n es qs) read valid can leads = continued m (at_members n es qs) read leads (finish_members m n es qs can.0 can.1)
 
 -- the line and the code at which a reader stops are those of the first bad line
-pub first_bad_line : (m : Model) (bytes : List ℕ) (line code : ℕ) → IsValid m → Stops m at_header bytes line code → IsFirstBadLine m bytes line code
+pub first_bad_line : (m : Model) (bytes : List ℕ) (line : ℕ) (code : PartCode) → IsValid m → Stops m at_header bytes line code → IsFirstBadLine m bytes line code
 first_bad_line m bytes line code valid stops =
     let found = continues m stops.state stops.reads.read valid (Leads_can m at_header stops.state stops.reads.read valid tt stops.reads.leads) stops.reads.leads in
     record {

@@ -7,9 +7,9 @@ use Rattle.std.proofs.lemmas.Bool.{false≢true}
 use Rattle.std.proofs.lemmas.Bool.Decides.{nat_tests}
 use Rattle.prod_model.specs.Names.{is_word, same_text}
 use Rattle.config_value.specs.Spelled.{is_word_place}
-use Rattle.canonical_form.specs.Pieces.{word_piece}
+use Rattle.canonical_form.specs.steps.Pieces.{word_piece}
 use Rattle.canonical_form.specs.AnswerParts.{behind_word}
-use Rattle.canonical_form.specs.Reading.{Takes, IsToken}
+use Rattle.canonical_form.specs.steps.Reading.{Takes, IsToken}
 use Rattle.canonical_form.proofs.LookUps.{position_hit, position_miss}
 use Rattle.prod_model.proofs.NameLaws.{same_text_refl}
 use Rattle.canonical_form.proofs.ModelTexts.{word_bytes_at}

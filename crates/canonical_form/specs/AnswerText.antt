@@ -22,14 +22,15 @@ word_at m a (negsuc n) = []
 abbrev pub value_text : Model → AttrAt → ℤ → List ℕ
 value_text m a v = elim a.domain [ Range low high ↦ signed_decimal v | Words words ↦ word_at m a v ]
 
--- ` NAME=VALUE`
+-- an attribute with its value: ` NAME=VALUE`
 abbrev pub attribute_text : Model → Named AttrAt × ℤ → List ℕ
 attribute_text m p = codes " " ++ p.0.name ++ codes "=" ++ value_text m p.0.what p.1
 
--- ` NAME:` and the linked numbers, with a comma between two of them
+-- a port with its links: ` NAME:` and the linked numbers, with a comma between two of them
 abbrev pub port_text : {A : Type 0} → Named A × List ℕ → List ℕ
 port_text p = codes " " ++ p.0.name ++ codes ":" ++ join_with_byte 44 (map decimal p.1)
 
+-- the name of a type
 abbrev pub type_name : Model → ℕ → List ℕ
 type_name m t = option_map_or (λ d. d.name) (slice_get m.types t) []
 

@@ -1,9 +1,6 @@
 pub mod AnswerText
+pub mod PartCodes
 pub mod AnswerParts
 pub mod BadLine
-pub mod Grammar
 pub mod ConflictText
-pub mod FirstDeclared
-pub mod Pieces
-pub mod Written
-pub mod Reading
+pub mod steps

@@ -4,7 +4,7 @@ ghost use Rattle.std.specs.List.{flat_map, zip};
 ghost use Rattle.prod_model.specs.Taxonomy.{attributes_of, ports_of};
 ghost use Rattle.config_value.specs.Spelled.{is_spelled};
 ghost use Rattle.canonical_form.specs.AnswerText.{attribute_text, port_text, type_name, instance_text, answer_text};
-ghost use Rattle.canonical_form.specs.Written.{IsWritten};
+ghost use Rattle.canonical_form.specs.steps.Written.{IsWritten};
 
 use crate::names::{first_attributes, first_ports};
 use crate::numbers::put_number;

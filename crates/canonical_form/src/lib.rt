@@ -11,5 +11,5 @@ mod reading;
 
 pub use answer_text::write_answer;
 pub use conflict_text::write_conflict;
-pub use fault::{AnswerRefusal, LineFault};
+pub use fault::{AnswerRefusal, LineFault, PartCode};
 pub use reading::read_answer;

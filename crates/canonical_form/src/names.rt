@@ -6,7 +6,7 @@ ghost use Rattle.prod_model.specs.declared.model.TypeDecl.{TypeDecl};
 ghost use Rattle.prod_model.specs.Forest.{line, line_within};
 ghost use Rattle.prod_model.specs.Taxonomy.{declarations_of, attributes_of, attributes_at, ports_of, words_of, first_words};
 ghost use Rattle.prod_model.specs.Valid.{IsValid};
-ghost use Rattle.canonical_form.specs.FirstDeclared.{with_new, first_declarations};
+ghost use Rattle.canonical_form.specs.steps.FirstDeclared.{with_new, first_declarations};
 
 use indexmap::IndexSet;
 use prod_model::{AttrDecl, Items, Model, PortDecl, TypeDecl};
@@ -118,7 +118,7 @@ fn put_line(
 
 /// The first declarations of the names that a type has, in order. A narrowing has a name that is
 /// there already.
-#[tactic(auto, unfolding(crate::specs::FirstDeclared::first_declarations))]
+#[tactic(auto, unfolding(crate::specs::steps::FirstDeclared::first_declarations))]
 fn first_declarations<'a, D: Declaration>(
     alloc: Global,
     types: &'a Items<TypeDecl>,

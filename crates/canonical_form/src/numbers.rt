@@ -1,7 +1,7 @@
 //! Writes numbers in decimal digits.
 ghost use Rattle.std.specs.Prelude.{◌≡◌, ◌++◌, OnOk};
 ghost use Rattle.std.specs.Fmt.{decimal, signed_decimal};
-ghost use Rattle.canonical_form.specs.Pieces.{numbers_piece};
+ghost use Rattle.canonical_form.specs.steps.Pieces.{numbers_piece};
 
 use itoa::Buffer;
 use std::alloc::AllocError;

@@ -2,7 +2,7 @@
 ghost use Rattle.std.specs.Prelude.{◌≡◌, ◌++◌, map, length, IsTrue, OnOk};
 ghost use Rattle.std.specs.List.{list_all, flat_map, zip};
 ghost use Rattle.prod_model.specs.Taxonomy.{words_of};
-ghost use Rattle.canonical_form.specs.Pieces.{word_piece, value_piece, is_written_value, is_written, attribute_piece, port_piece};
+ghost use Rattle.canonical_form.specs.steps.Pieces.{word_piece, value_piece, is_written_value, is_written, attribute_piece, port_piece};
 ghost use Rattle.config_value.specs.Spelled.{is_word_place};
 
 use crate::numbers::{put_numbers, put_signed};
@@ -45,7 +45,7 @@ fn put_value(
 }
 
 /// Appends an attribute with its value.
-#[tactic(auto, unfolding(crate::specs::Pieces::attribute_piece))]
+#[tactic(auto, unfolding(crate::specs::steps::Pieces::attribute_piece))]
 fn put_attribute(
     out: &mut Vec<u8>,
     first: &AttrDecl,
@@ -84,7 +84,7 @@ pub fn put_attributes(
 }
 
 /// Appends a port with its links.
-#[tactic(auto, unfolding(crate::specs::Pieces::port_piece))]
+#[tactic(auto, unfolding(crate::specs::steps::Pieces::port_piece))]
 fn put_port(out: &mut Vec<u8>, first: &PortDecl, links: &[u32]) -> Result<(), AllocError>
     ensures { OnOk result (out.new.items ≡ out.old.items ++ port_piece (first.now, links.now)) }
 {

@@ -1,9 +1,9 @@
 //! Reads the text of an answer.
 ghost use Rattle.std.specs.Prelude.{◌≡◌, map, IfOk, IfErr};
 ghost use Rattle.prod_model.specs.Valid.{IsValid};
-ghost use Rattle.canonical_form.specs.BadLine.{IsAnswerOf};
-ghost use Rattle.canonical_form.specs.Grammar.{at_number};
-ghost use Rattle.canonical_form.specs.Reading.{AreInstances, Refuses, IsRefusal};
+ghost use Rattle.canonical_form.specs.BadLine.{IsAnswerOf, IsRefusal};
+ghost use Rattle.canonical_form.specs.steps.Grammar.{at_number};
+ghost use Rattle.canonical_form.specs.steps.Reading.{AreInstances, Refuses};
 
 mod line;
 mod links;
@@ -11,7 +11,7 @@ mod tokens;
 mod type_names;
 mod values;
 
-use crate::fault::AnswerRefusal;
+use crate::fault::{AnswerRefusal, PartCode};
 use config_value::{Configuration, Instance};
 use line::read_instance;
 use prod_model::{Items, Problem};
@@ -36,7 +36,7 @@ fn read_instances(
     let mut rest = bytes;
     while number == 0 || !rest.is_empty() {
         if number == 64 {
-            return Err(AnswerRefusal::at(66, 2));
+            return Err(AnswerRefusal::at(66, PartCode::Number));
         }
         let (instance, after) = read_instance(alloc, problem, names, number, rest)?;
         instances.push(instance)?;
@@ -50,9 +50,8 @@ fn read_instances(
 /// over the bytes, and looks types up by their names.
 ///
 /// The text is refused at the first line where it leaves the spelling of a configuration, with the
-/// code of the part at fault: 1 the header, 2 the number of an instance, 3 its leaf type, 4 an
-/// attribute, 5 a port, 6 the end of a line. Line 66 has code 2, since there are at most 64
-/// instances. `Memory` where memory runs out.
+/// code of the part at fault. At line 66 that is `Number`, since there are at most 64 instances.
+/// `Memory` where memory runs out.
 pub fn read_answer(
     alloc: Global,
     problem: &Problem,
@@ -64,10 +63,10 @@ pub fn read_answer(
     let model = problem.model();
     let names = TypeNames::of(alloc, &model.types)?;
     let Some(headed) = behind_text(b"preferred", bytes) else {
-        return Err(AnswerRefusal::at(1, 1));
+        return Err(AnswerRefusal::at(1, PartCode::Header));
     };
     let Some(rest) = behind_byte(b'\n', headed) else {
-        return Err(AnswerRefusal::at(1, 6));
+        return Err(AnswerRefusal::at(1, PartCode::LineEnd));
     };
     let instances = read_instances(alloc, problem, &names, rest)?;
     Ok(Configuration::from_list(instances))

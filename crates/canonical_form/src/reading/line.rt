@@ -3,14 +3,14 @@ ghost use Rattle.std.specs.Prelude.{◌≡◌, ◌≢◌, ◌<◌, [], map, IsTr
 ghost use Rattle.prod_model.specs.Forest.{is_leaf};
 ghost use Rattle.prod_model.specs.Valid.{IsValid};
 ghost use Rattle.canonical_form.specs.AnswerParts.{behind_name};
-ghost use Rattle.canonical_form.specs.Grammar.{at_number};
-ghost use Rattle.canonical_form.specs.Reading.{Takes, TakesNone, type_text, IsInstance, Refuses};
+ghost use Rattle.canonical_form.specs.steps.Grammar.{at_number};
+ghost use Rattle.canonical_form.specs.steps.Reading.{Takes, TakesNone, type_text, IsInstance, Refuses};
 
 use super::links::read_ports;
 use super::tokens::{Reach, behind_byte, behind_number, split_token};
 use super::type_names::TypeNames;
 use super::values::read_attributes;
-use crate::fault::AnswerRefusal;
+use crate::fault::{AnswerRefusal, PartCode};
 use config_value::Instance;
 use prod_model::Problem;
 use std::alloc::Global;
@@ -37,9 +37,9 @@ fn read_type<'a>(
     Some((kind, rest))
 }
 
-/// An instance of that number, and what stands behind its line. Code 2 where the line does not
-/// begin with the number, 3 where no leaf type is next, 4 or 5 where an attribute or a port is not
-/// there, and 6 where the line does not end there.
+/// An instance of that number, and what stands behind its line. Refused at `Number` where the line
+/// does not begin with the number, at `TypeName` where no leaf type is next, at `Attribute` or
+/// `Port` where one is not there, and at `LineEnd` where the line does not end there.
 pub fn read_instance<'a>(
     alloc: Global,
     problem: &Problem,
@@ -55,15 +55,15 @@ pub fn read_instance<'a>(
     ensures refused { IfErr result (Refuses problem.now (at_number number) bytes.now) }
 {
     let Some(typed) = behind_number(number, bytes) else {
-        return Err(AnswerRefusal::at(number + 2, 2));
+        return Err(AnswerRefusal::at(number + 2, PartCode::Number));
     };
     let Some((kind, rest)) = read_type(problem, names, typed) else {
-        return Err(AnswerRefusal::at(number + 2, 3));
+        return Err(AnswerRefusal::at(number + 2, PartCode::TypeName));
     };
     let (values, rest) = read_attributes(alloc, problem, number, kind, rest)?;
     let (links, rest) = read_ports(alloc, problem, number, kind, rest)?;
     let Some(next) = behind_byte(b'\n', rest) else {
-        return Err(AnswerRefusal::at(number + 2, 6));
+        return Err(AnswerRefusal::at(number + 2, PartCode::LineEnd));
     };
     let instance = Instance {
         kind,

@@ -4,13 +4,13 @@ ghost use Rattle.std.specs.Fmt.{decimal};
 ghost use Rattle.prod_model.specs.Valid.{IsValid};
 ghost use Rattle.prod_model.specs.Taxonomy.{ports_of};
 ghost use Rattle.config_value.specs.Spelled.{is_spelled_links};
-ghost use Rattle.canonical_form.specs.Pieces.{numbers_piece, port_piece};
+ghost use Rattle.canonical_form.specs.steps.Pieces.{numbers_piece, port_piece};
 ghost use Rattle.canonical_form.specs.AnswerParts.{behind_number, behind_links, links_end};
-ghost use Rattle.canonical_form.specs.Grammar.{at_members};
-ghost use Rattle.canonical_form.specs.Reading.{Takes, TakesNone, AddsLinks, AreLinks, Refuses, ascends_from, begins_with_digit, is_link_from};
+ghost use Rattle.canonical_form.specs.steps.Grammar.{at_members};
+ghost use Rattle.canonical_form.specs.steps.Reading.{Takes, TakesNone, AddsLinks, AreLinks, Refuses, ascends_from, begins_with_digit, is_link_from};
 
 use super::tokens::{Reach, behind_byte, behind_sign, number_of, split_token};
-use crate::fault::AnswerRefusal;
+use crate::fault::{AnswerRefusal, PartCode};
 use crate::names::first_ports;
 use prod_model::{Items, PortDecl, Problem};
 use std::alloc::{AllocError, Global};
@@ -88,7 +88,7 @@ fn begins_with_digit(bytes: &[u8]) -> bool
 }
 
 /// The links of a port, and what stands behind them.
-#[tactic(auto, unfolding(crate::specs::Pieces::port_piece))]
+#[tactic(auto, unfolding(crate::specs::steps::Pieces::port_piece))]
 fn read_port<'a>(
     alloc: Global,
     first: &PortDecl,
@@ -106,7 +106,7 @@ fn read_port<'a>(
 }
 
 /// Links of all ports of a type, in the line of an instance, and what stands behind them. It goes
-/// once over the ports. Code 5 where one is not there with links that can be written.
+/// once over the ports. Refused at `Port` where one is not there with links that can be written.
 pub fn read_ports<'a>(
     alloc: Global,
     problem: &Problem,
@@ -125,7 +125,7 @@ pub fn read_ports<'a>(
     let mut rest = bytes;
     for first in &firsts {
         let Some((links, after)) = read_port(alloc, first, rest)? else {
-            return Err(AnswerRefusal::at(number + 2, 5));
+            return Err(AnswerRefusal::at(number + 2, PartCode::Port));
         };
         ports.push(links)?;
         rest = after;

@@ -5,7 +5,7 @@ ghost use Rattle.prod_model.specs.declared.model.PortKind.TheVariants.{Part};
 
 use super::read_answer;
 use crate::answer_text::write_answer;
-use crate::fault::{AnswerRefusal, LineFault};
+use crate::fault::AnswerRefusal;
 use prod_model::{
     AttrAt, AttrDecl, Domain, Items, Model, Name, PortAt, PortDecl, PortKind, Problem, Tables,
     TypeDecl,
@@ -151,9 +151,10 @@ fn bikes(alloc: Global) -> Result<Problem, AllocError>
     Ok(Problem::from_parts(model, Tables { attributes, ports }))
 }
 
-fn fault_of(alloc: Global, problem: &Problem, text: &[u8]) -> Option<LineFault> {
+/// The line of the fault, and the number of its code.
+fn fault_of(alloc: Global, problem: &Problem, text: &[u8]) -> Option<(u32, u32)> {
     match read_answer(alloc, problem, text) {
-        Err(AnswerRefusal::Line(fault)) => Some(fault),
+        Err(AnswerRefusal::Line(fault)) => Some((fault.line, fault.code.number())),
         _ => None,
     }
 }
@@ -195,7 +196,7 @@ fn tells_the_first_bad_line(rt: HostRuntime) -> Result<(), Fail> {
         ("preferred\n0 Wheel\r\n", 2, 6),
     ] {
         let fault = fault_of(alloc, &problem, text.as_bytes());
-        assert_eq!(rt; fault, Some(LineFault { line, code }), "at {text}");
+        assert_eq!(rt; fault, Some((line, code)), "at {text}");
     }
     Ok(())
 }
@@ -232,6 +233,6 @@ fn no_line_stands_behind_the_last_instance(rt: HostRuntime) -> Result<(), Fail> 
     assert!(rt; read_answer(alloc, &problem, &text).is_ok());
     text.extend_from_slice(b"64 Wheel\n")?;
     let fault = fault_of(alloc, &problem, &text);
-    assert_eq!(rt; fault, Some(LineFault { line: 66, code: 2 }));
+    assert_eq!(rt; fault, Some((66, 2)));
     Ok(())
 }

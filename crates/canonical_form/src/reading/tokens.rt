@@ -4,7 +4,7 @@ ghost use Rattle.std.specs.Fmt.{decimal, signed_decimal};
 ghost use Rattle.prod_model.specs.Limits.{is_within, farthest_end};
 ghost use Rattle.prod_model.specs.Names.{is_name_byte, same_text};
 ghost use Rattle.canonical_form.specs.AnswerParts.{belongs, behind_number};
-ghost use Rattle.canonical_form.specs.Reading.{end_of, IsToken, Takes};
+ghost use Rattle.canonical_form.specs.steps.Reading.{end_of, IsToken, Takes};
 
 use itoa::Buffer;
 
@@ -51,8 +51,10 @@ pub fn split_token(reach: Reach, bytes: &[u8]) -> (&[u8], &[u8])
 
 /// What stands behind a number, where the bytes begin with it.
 pub fn behind_number(number: u32, bytes: &[u8]) -> Option<&[u8]>
-    ensures found { IfSome result (λ rest. Takes (decimal number) behind_number bytes.now rest.now) }
-    ensures none { result ≡ None → (rest : List ℕ) → ¬ Takes (decimal number) behind_number bytes.now rest }
+    ensures found { IfSome result
+        (λ rest. Takes (decimal number) behind_number bytes.now rest.now) }
+    ensures none { result ≡ None
+        → (rest : List ℕ) → ¬ Takes (decimal number) behind_number bytes.now rest }
 {
     let (digits, rest) = split_token(Reach::Number, bytes);
     if !is_text_of(i64::from(number), digits) {

@@ -7,13 +7,13 @@ ghost use Rattle.prod_model.specs.Names.{is_word, same_text};
 ghost use Rattle.prod_model.specs.Valid.{IsValid};
 ghost use Rattle.prod_model.specs.Taxonomy.{words_of, attributes_of, ports_of};
 ghost use Rattle.config_value.specs.Spelled.{is_word_place};
-ghost use Rattle.canonical_form.specs.Pieces.{word_piece, value_piece, is_written_value, is_written, attribute_piece};
+ghost use Rattle.canonical_form.specs.steps.Pieces.{word_piece, value_piece, is_written_value, is_written, attribute_piece};
 ghost use Rattle.canonical_form.specs.AnswerParts.{behind_number, behind_word, value_end};
-ghost use Rattle.canonical_form.specs.Grammar.{at_members};
-ghost use Rattle.canonical_form.specs.Reading.{Takes, TakesNone, AreValues, Refuses, end_of_domain, without_sign};
+ghost use Rattle.canonical_form.specs.steps.Grammar.{at_members};
+ghost use Rattle.canonical_form.specs.steps.Reading.{Takes, TakesNone, AreValues, Refuses, end_of_domain, without_sign};
 
 use super::tokens::{Reach, behind_sign, number_of, split_token};
-use crate::fault::AnswerRefusal;
+use crate::fault::{AnswerRefusal, PartCode};
 use crate::names::first_attributes;
 use crate::pieces::words_of;
 use prod_model::{AttrAt, AttrDecl, Domain, Items, Name, Problem};
@@ -86,7 +86,8 @@ fn read_value<'a>(words: &[Name], domain: &Domain, bytes: &'a [u8]) -> Option<(i
     requires formed { IsTrue (list_all is_word words.now) }
     requires few { length words.now < 2 ^ 63 }
     ensures found { IfSome result (λ r. IsTrue (is_written_value (length words.now) domain.now r.0)
-        × Takes (value_piece words.now domain.now r.0) (end_of_domain domain.now) bytes.now r.1.now) }
+        × Takes (value_piece words.now domain.now r.0) (end_of_domain domain.now)
+        bytes.now r.1.now) }
     ensures none { result ≡ None → TakesNone (value_piece words.now domain.now)
         (λ v. end_of_domain domain.now) (is_written_value (length words.now) domain.now) bytes.now }
 {
@@ -97,7 +98,7 @@ fn read_value<'a>(words: &[Name], domain: &Domain, bytes: &'a [u8]) -> Option<(i
 }
 
 /// The value of an attribute, and what stands behind it.
-#[tactic(auto, unfolding(crate::specs::Pieces::attribute_piece))]
+#[tactic(auto, unfolding(crate::specs::steps::Pieces::attribute_piece))]
 fn read_attribute<'a>(first: &AttrDecl, at: &AttrAt, bytes: &'a [u8]) -> Option<(i64, &'a [u8])>
     requires formed { IsTrue (list_all is_word (words_of first.now.domain)) }
     requires few { length (words_of first.now.domain) < 2 ^ 63 }
@@ -112,7 +113,8 @@ fn read_attribute<'a>(first: &AttrDecl, at: &AttrAt, bytes: &'a [u8]) -> Option<
 }
 
 /// Values of all attributes of a type, in the line of an instance, and what stands behind them. It
-/// goes once over the attributes. Code 4 where one is not there with a value that can be written.
+/// goes once over the attributes. Refused at `Attribute` where one is not there with a value that
+/// can be written.
 pub fn read_attributes<'a>(
     alloc: Global,
     problem: &Problem,
@@ -134,7 +136,7 @@ pub fn read_attributes<'a>(
     let mut rest = bytes;
     for k in 0..attrs.len() {
         let Some((value, after)) = read_attribute(firsts[k], &attrs[k], rest) else {
-            return Err(AnswerRefusal::at(number + 2, 4));
+            return Err(AnswerRefusal::at(number + 2, PartCode::Attribute));
         };
         values.push(value)?;
         rest = after;

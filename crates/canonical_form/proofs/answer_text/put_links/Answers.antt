@@ -2,7 +2,7 @@ use Rattle.std.proofs.Common.{◌≡◌, ◌++◌, ◌∙◌, ap, map}
 use Rattle.std.specs.List.{flat_map, zip}
 use Rattle.std.proofs.lemmas.Result.{IfOk-equal}
 use Rattle.prod_model.specs.Taxonomy.{ports_of}
-use Rattle.canonical_form.specs.Pieces.{port_piece}
+use Rattle.canonical_form.specs.steps.Pieces.{port_piece}
 use Rattle.canonical_form.proofs.LinePieces.{ports_text}
 use Rattle.canonical_form.proofs.answer_text.put_links.Goals as goal
 

@@ -2,7 +2,7 @@ use Rattle.std.proofs.Common.{◌≡◌, ◌++◌, ◌∙◌, ap, map}
 use Rattle.std.specs.List.{flat_map, zip}
 use Rattle.std.proofs.lemmas.Result.{IfOk-equal}
 use Rattle.prod_model.specs.Taxonomy.{attributes_of, attributes_at, words_of, first_words}
-use Rattle.canonical_form.specs.Pieces.{attribute_piece}
+use Rattle.canonical_form.specs.steps.Pieces.{attribute_piece}
 use Rattle.canonical_form.proofs.LinePieces.{attributes_text, attributes_written}
 use Rattle.canonical_form.proofs.answer_text.put_values.Goals as goal
 

@@ -5,7 +5,7 @@ use Rattle.std.proofs.lemmas.List.{take_all}
 use Rattle.std.proofs.lemmas.List.FromFn.{length-enumerate_from}
 use Rattle.canonical_form.specs.AnswerText.{instance_text, answer_text}
 use Rattle.canonical_form.proofs.SpelledInstances.{few_instances, written_at, numbered_at}
-use Rattle.canonical_form.proofs.Zipped.{flat_map_take_more}
+use Rattle.base_laws.proofs.Steps.{flat_map_take_more}
 use Rattle.canonical_form.proofs.answer_text.write_answer.Goals as goal
 
 pub overflow_cast-i-end : goal.overflow_cast-i-end

@@ -2,7 +2,7 @@ use Rattle.std.proofs.Common.{◌≡◌, map, take, reverse}
 use Rattle.std.specs.List.{flat_map}
 use Rattle.prod_model.specs.Forest.{line}
 use Rattle.prod_model.specs.Taxonomy.{declarations_of}
-use Rattle.canonical_form.specs.FirstDeclared.{firsts_of}
+use Rattle.canonical_form.specs.steps.FirstDeclared.{firsts_of}
 use Rattle.canonical_form.proofs.names.first_declarations.Given as goal
 
 -- the names are those of the declarations, which are the first ones of the types so far

@@ -1,6 +1,6 @@
 use Rattle.std.proofs.Common.{◌≡◌, map, take}
 use Rattle.std.specs.List.{fold}
-use Rattle.canonical_form.specs.FirstDeclared.{with_new}
+use Rattle.canonical_form.specs.steps.FirstDeclared.{with_new}
 use Rattle.canonical_form.proofs.names.put_declarations.Given as goal
 
 -- the names are those of the declarations, and those so far are kept where their names are new

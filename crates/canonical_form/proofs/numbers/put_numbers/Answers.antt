@@ -1,7 +1,7 @@
 use Rattle.std.proofs.Common.{◌≡◌, ◌∷◌, ◌++◌, ◌∙◌, ap, rules, arith}
 use Rattle.std.specs.Fmt.{decimal}
 use Rattle.std.proofs.lemmas.Grind.{common_steps}
-use Rattle.canonical_form.specs.Pieces.{numbers_piece}
+use Rattle.canonical_form.specs.steps.Pieces.{numbers_piece}
 use Rattle.canonical_form.proofs.Joined.{numbers_piece_cons, after_commas}
 use Rattle.canonical_form.proofs.numbers.put_numbers.Goals as goal
 

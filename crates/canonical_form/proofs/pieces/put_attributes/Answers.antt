@@ -3,9 +3,10 @@ use Rattle.std.specs.List.{zip}
 use Rattle.std.proofs.lemmas.Grind.{common_steps}
 use Rattle.std.proofs.lemmas.Int.{ints, to_z-of_z}
 use Rattle.std.proofs.lemmas.List.{take_all}
-use Rattle.canonical_form.specs.Pieces.{attribute_piece, is_written}
+use Rattle.canonical_form.specs.steps.Pieces.{attribute_piece, is_written}
 use Rattle.base_laws.proofs.Tests.{list_all_at}
-use Rattle.canonical_form.proofs.Zipped.{flat_map_take_more, triple_read, length_triple}
+use Rattle.base_laws.proofs.Lists.{triple_read, length_triple}
+use Rattle.base_laws.proofs.Steps.{flat_map_take_more}
 use Rattle.canonical_form.proofs.pieces.put_attributes.Goals as goal
 
 pub put_attribute-requires : goal.put_attribute-requires

@@ -1,6 +1,6 @@
 use Rattle.std.proofs.Common.{◌≡◌, ◌++◌, map, take}
 use Rattle.std.specs.List.{flat_map, zip}
-use Rattle.canonical_form.specs.Pieces.{attribute_piece}
+use Rattle.canonical_form.specs.steps.Pieces.{attribute_piece}
 use Rattle.canonical_form.proofs.pieces.put_attributes.Given as goal
 
 -- the attributes so far are written

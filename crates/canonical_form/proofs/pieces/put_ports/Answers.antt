@@ -3,9 +3,9 @@ use Rattle.std.specs.List.{zip}
 use Rattle.std.proofs.lemmas.Grind.{common_steps}
 use Rattle.std.proofs.lemmas.List.{length-map, take_all}
 use Rattle.std.proofs.lemmas.Option.{slice_get_read}
-use Rattle.canonical_form.specs.Pieces.{port_piece}
-use Rattle.base_laws.proofs.Lists.{slice_get_zip}
-use Rattle.canonical_form.proofs.Zipped.{slice_get_map_read, flat_map_take_more, length_zip}
+use Rattle.canonical_form.specs.steps.Pieces.{port_piece}
+use Rattle.base_laws.proofs.Lists.{slice_get_zip, slice_get_map_read, length_zip}
+use Rattle.base_laws.proofs.Steps.{flat_map_take_more}
 use Rattle.canonical_form.proofs.pieces.put_ports.Goals as goal
 
 pub loop-k-preserved : goal.loop-k-preserved

@@ -1,6 +1,6 @@
 use Rattle.std.proofs.Common.{◌≡◌, ◌++◌, map, take}
 use Rattle.std.specs.List.{flat_map, zip}
-use Rattle.canonical_form.specs.Pieces.{port_piece}
+use Rattle.canonical_form.specs.steps.Pieces.{port_piece}
 use Rattle.canonical_form.proofs.pieces.put_ports.Given as goal
 
 -- the ports so far are written

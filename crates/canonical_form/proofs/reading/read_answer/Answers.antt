@@ -2,9 +2,9 @@ use Rattle.std.proofs.Common.{map, refl, sym, subst}
 use Rattle.std.specs.Prelude.{IsTrue}
 use Rattle.prod_model.specs.declared.model.Model.{Model}
 use Rattle.prod_model.specs.Names.{is_distinct}
-use Rattle.canonical_form.specs.BadLine.{IsAnswerOf}
-use Rattle.canonical_form.specs.Grammar.{at_header, at_number}
-use Rattle.canonical_form.specs.Reading.{IsRefusal}
+use Rattle.canonical_form.specs.declared.fault.PartCode.TheVariants.{Header, LineEnd}
+use Rattle.canonical_form.specs.BadLine.{IsAnswerOf, IsRefusal}
+use Rattle.canonical_form.specs.steps.Grammar.{at_header, at_number}
 use Rattle.canonical_form.proofs.ModelTexts.{type_names_distinct}
 use Rattle.canonical_form.proofs.LineSteps.{refused_behind, same_refusal}
 use Rattle.canonical_form.proofs.AnswerSteps.{header_stops, header_end_stops, header_line_reads, is_answer}
@@ -19,14 +19,14 @@ pub returns-in_default-clause-fault : goal.returns-in_default-clause-fault
 returns-in_default-clause-fault c =
     let m = c.args.problem.now in
     let bytes = c.args.bytes.now in
-    subst (IsRefusal m bytes) (sym c.at.ensures) (first_bad_line m bytes 1 1 c.model-model.ensures.valid (header_stops m bytes (c.in_default.ensures.none refl)))
+    subst (IsRefusal m bytes) (sym c.at.ensures) (first_bad_line m bytes 1 Header c.model-model.ensures.valid (header_stops m bytes (c.in_default.ensures.none refl)))
 
 pub returns-in_default-behind_byte-clause-fault : goal.returns-in_default-behind_byte-clause-fault
 returns-in_default-behind_byte-clause-fault c =
     let m = c.args.problem.now in
     let bytes = c.args.bytes.now in
     subst (IsRefusal m bytes) (sym c.at-in_default-behind_byte.ensures)
-    (first_bad_line m bytes 1 6 c.model-model.ensures.valid (header_end_stops m bytes c.in-Some.headed.now c.in-Some.ensures.found (c.in_default-behind_byte.ensures.none refl)))
+    (first_bad_line m bytes 1 LineEnd c.model-model.ensures.valid (header_end_stops m bytes c.in-Some.headed.now c.in-Some.ensures.found (c.in_default-behind_byte.ensures.none refl)))
 
 pub returns-in_err-instances-clause-fault : goal.returns-in_err-instances-clause-fault
 returns-in_err-instances-clause-fault c =

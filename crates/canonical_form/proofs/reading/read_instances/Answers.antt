@@ -1,6 +1,6 @@
 use Rattle.std.proofs.Common.{◌≢◌, [], sym, subst, ◌∙◌, arith}
-use Rattle.canonical_form.specs.Grammar.{at_number}
-use Rattle.canonical_form.specs.Reading.{Refuses}
+use Rattle.canonical_form.specs.steps.Grammar.{at_number}
+use Rattle.canonical_form.specs.steps.Reading.{Refuses}
 use Rattle.canonical_form.proofs.LineSteps.{refused_behind, same_refusal}
 use Rattle.canonical_form.proofs.LinesSteps.{instances_more, instances_read, instances_stop, no_length}
 use Rattle.canonical_form.proofs.reading.read_instances.Goals as goal

@@ -1,8 +1,9 @@
 use Rattle.std.proofs.Common.{◌+◌, [], refl, sym, subst}
 use Rattle.prod_model.specs.Taxonomy.{attributes_of, ports_of}
 use Rattle.config_value.specs.declared.configuration.Instance.{Instance}
-use Rattle.canonical_form.specs.Grammar.{at_number, at_type, at_members}
-use Rattle.canonical_form.specs.Reading.{Refuses}
+use Rattle.canonical_form.specs.declared.fault.PartCode.TheVariants.{TypeName, LineEnd}
+use Rattle.canonical_form.specs.steps.Grammar.{at_number, at_type, at_members}
+use Rattle.canonical_form.specs.steps.Reading.{Refuses}
 use Rattle.canonical_form.proofs.Paths.{Reads_then, Stops_then}
 use Rattle.canonical_form.proofs.ModelTexts.{leaf_is_type}
 use Rattle.canonical_form.proofs.LineSteps.{number_stops, type_stops, end_stops, number_reads, type_reads, values_reads, links_reads, instance_read, refused_behind, same_refusal}
@@ -24,7 +25,7 @@ returns-in_default-read_type-clause-refused c =
     let first = number_reads m n c.args.bytes.now c.in-Some.typed.now c.requires.few c.in-Some.ensures.found in
     let stops = type_stops m n c.in-Some.typed.now (c.in_default-read_type.ensures.none refl) in
     subst (Refuses m (at_number n) c.args.bytes.now) (sym c.at-in_default-read_type.ensures)
-    (Stops_then m (at_number n) (at_type n) c.args.bytes.now c.in-Some.typed.now (n + 2) 3 first stops)
+    (Stops_then m (at_number n) (at_type n) c.args.bytes.now c.in-Some.typed.now (n + 2) TypeName first stops)
 
 pub returns-in_err-values-clause-refused : goal.returns-in_err-values-clause-refused
 returns-in_err-values-clause-refused c =
@@ -70,7 +71,7 @@ returns-in_default-behind_byte-clause-refused c =
     let more = Reads_then m (at_number n) members ports c.args.bytes.now c.in-Some-read_type.rest.now c.in_ok-values.rest.now both third in
     let reads = Reads_then m (at_number n) ports (at_members n [] []) c.args.bytes.now c.in_ok-values.rest.now c.in_ok-links.rest.now more fourth in
     subst (Refuses m (at_number n) c.args.bytes.now) (sym c.at-in_default-behind_byte.ensures)
-    (Stops_then m (at_number n) (at_members n [] []) c.args.bytes.now c.in_ok-links.rest.now (n + 2) 6 reads (end_stops m n c.in_ok-links.rest.now (c.in_default-behind_byte.ensures.none refl)))
+    (Stops_then m (at_number n) (at_members n [] []) c.args.bytes.now c.in_ok-links.rest.now (n + 2) LineEnd reads (end_stops m n c.in_ok-links.rest.now (c.in_default-behind_byte.ensures.none refl)))
 
 pub returns-clause-read : goal.returns-clause-read
 returns-clause-read c =

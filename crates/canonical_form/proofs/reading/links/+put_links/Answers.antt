@@ -1,7 +1,7 @@
 use Rattle.std.proofs.Common.{refl, ◌+◌}
 use Rattle.canonical_form.specs.AnswerParts.{behind_links}
-use Rattle.canonical_form.specs.Pieces.{numbers_piece}
-use Rattle.canonical_form.specs.Reading.{AddsLinks, TakesNone, ascends_from}
+use Rattle.canonical_form.specs.steps.Pieces.{numbers_piece}
+use Rattle.canonical_form.specs.steps.Reading.{AddsLinks, TakesNone, ascends_from}
 use Rattle.canonical_form.proofs.LinkSteps.{more_links, no_first, no_more, found_more, none_more}
 use Rattle.canonical_form.proofs.reading.links.+put_links.Goals as goal
 

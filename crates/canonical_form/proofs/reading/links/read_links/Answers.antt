@@ -1,5 +1,5 @@
 use Rattle.std.proofs.Common.{List, ℕ, sym, subst, ◌∙◌}
-use Rattle.canonical_form.specs.Reading.{AddsLinks}
+use Rattle.canonical_form.specs.steps.Reading.{AddsLinks}
 use Rattle.canonical_form.proofs.LinkSteps.{all_links, no_links}
 use Rattle.canonical_form.proofs.reading.links.read_links.Goals as goal
 

@@ -1,7 +1,7 @@
 use Rattle.config_value.specs.Spelled.{is_spelled_links}
 use Rattle.canonical_form.specs.AnswerParts.{links_end}
-use Rattle.canonical_form.specs.Pieces.{numbers_piece, port_piece}
-use Rattle.canonical_form.specs.Reading.{TakesNone}
+use Rattle.canonical_form.specs.steps.Pieces.{numbers_piece, port_piece}
+use Rattle.canonical_form.specs.steps.Reading.{TakesNone}
 use Rattle.canonical_form.proofs.ReadingSteps.{piece_behind}
 use Rattle.canonical_form.proofs.LinkSteps.{none_more}
 use Rattle.canonical_form.proofs.reading.links.read_port.Goals as goal

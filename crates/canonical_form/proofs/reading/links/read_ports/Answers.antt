@@ -1,7 +1,7 @@
 use Rattle.std.proofs.Common.{[], sym, subst}
 use Rattle.prod_model.specs.Taxonomy.{ports_of}
-use Rattle.canonical_form.specs.Grammar.{at_members}
-use Rattle.canonical_form.specs.Reading.{Refuses}
+use Rattle.canonical_form.specs.steps.Grammar.{at_members}
+use Rattle.canonical_form.specs.steps.Reading.{Refuses}
 use Rattle.canonical_form.proofs.MemberSteps.{next_port, links_next, links_refused}
 use Rattle.canonical_form.proofs.reading.links.read_ports.Goals as goal
 

@@ -1,7 +1,7 @@
 use Rattle.std.proofs.Common.{◌≡◌, ◌≤◌, ◌-◌, true, length, take}
 use Rattle.std.specs.List.{list_all}
 use Rattle.canonical_form.specs.AnswerParts.{belongs}
-use Rattle.canonical_form.specs.Reading.{end_of}
+use Rattle.canonical_form.specs.steps.Reading.{end_of}
 use Rattle.canonical_form.proofs.reading.tokens.split_token.Given as goal
 
 -- the bytes so far belong to the token

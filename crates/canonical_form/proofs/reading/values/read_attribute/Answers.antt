@@ -1,7 +1,7 @@
 use Rattle.std.proofs.Common.{List, ℕ, length, subst}
 use Rattle.prod_model.specs.Taxonomy.{words_of}
-use Rattle.canonical_form.specs.Pieces.{value_piece, is_written_value, attribute_piece}
-use Rattle.canonical_form.specs.Reading.{TakesNone, end_of_domain}
+use Rattle.canonical_form.specs.steps.Pieces.{value_piece, is_written_value, attribute_piece}
+use Rattle.canonical_form.specs.steps.Reading.{TakesNone, end_of_domain}
 use Rattle.canonical_form.proofs.ReadingSteps.{piece_behind}
 use Rattle.canonical_form.proofs.reading.values.read_attribute.Goals as goal
 

@@ -4,8 +4,8 @@ use Rattle.std.specs.List.{list_all}
 use Rattle.std.proofs.lemmas.Int.{ints, to_z-of_z}
 use Rattle.prod_model.specs.Names.{is_word}
 use Rattle.prod_model.specs.Taxonomy.{attributes_of, ports_of}
-use Rattle.canonical_form.specs.Grammar.{at_members}
-use Rattle.canonical_form.specs.Reading.{Refuses}
+use Rattle.canonical_form.specs.steps.Grammar.{at_members}
+use Rattle.canonical_form.specs.steps.Reading.{Refuses}
 use Rattle.canonical_form.proofs.ModelTexts.{first_words_formed, first_words_few}
 use Rattle.canonical_form.proofs.MemberSteps.{next_entry, values_next, values_refused}
 use Rattle.canonical_form.proofs.reading.values.read_attributes.Goals as goal

@@ -3,9 +3,9 @@ use Rattle.std.specs.Prelude.{IsTrue}
 use Rattle.std.proofs.lemmas.Int.{to_z_pos}
 use Rattle.config_value.specs.Spelled.{is_word_place}
 use Rattle.prod_model.specs.Names.{same_text}
-use Rattle.canonical_form.specs.Pieces.{word_piece}
+use Rattle.canonical_form.specs.steps.Pieces.{word_piece}
 use Rattle.canonical_form.specs.AnswerParts.{behind_word}
-use Rattle.canonical_form.specs.Reading.{Takes}
+use Rattle.canonical_form.specs.steps.Reading.{Takes}
 use Rattle.canonical_form.proofs.LookUps.{position_hit}
 use Rattle.canonical_form.proofs.WordSteps.{no_word, found_word}
 use Rattle.canonical_form.proofs.reading.values.read_word.Goals as goal

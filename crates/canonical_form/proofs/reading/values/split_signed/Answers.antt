@@ -1,6 +1,6 @@
 use Rattle.std.proofs.Common.{List, ℕ, subst}
 use Rattle.canonical_form.specs.AnswerParts.{behind_number}
-use Rattle.canonical_form.specs.Reading.{IsToken}
+use Rattle.canonical_form.specs.steps.Reading.{IsToken}
 use Rattle.canonical_form.proofs.ReadingSteps.{signed_takes, signed_only}
 use Rattle.canonical_form.proofs.reading.values.split_signed.Goals as goal
 

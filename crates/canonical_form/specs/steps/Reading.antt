@@ -16,9 +16,9 @@ use Rattle.canonical_form.specs.declared.fault.AnswerRefusal.{AnswerRefusal}
 use Rattle.canonical_form.specs.declared.fault.AnswerRefusal.TheVariants.{Line, Memory}
 use Rattle.canonical_form.specs.AnswerText.{type_name}
 use Rattle.canonical_form.specs.AnswerParts.{End, belongs, behind_number, behind_name, behind_word, behind_links, attribute_part, port_part, instance_parts}
-use Rattle.canonical_form.specs.Pieces.{numbers_piece}
-use Rattle.canonical_form.specs.BadLine.{ends_there, IsFirstBadLine}
-use Rattle.canonical_form.specs.Grammar.{State, Stops, BeginsThen, is_spelled_instance}
+use Rattle.canonical_form.specs.steps.Pieces.{numbers_piece}
+use Rattle.canonical_form.specs.BadLine.{ends_there}
+use Rattle.canonical_form.specs.steps.Grammar.{State, Stops, BeginsThen, is_spelled_instance}
 
 -- ---- a text at the front of bytes
 
@@ -29,7 +29,8 @@ pub record Takes (text : List ℕ) (end : End) (bytes rest : List ℕ) : Type 0 
 
 -- the bytes don't begin with the text of any value
 abbrev pub TakesNone : {X : Type 0} → (X → List ℕ) → (X → End) → (X → Bool) → List ℕ → Type 0
-TakesNone {X} text end is bytes = (v : X) (rest : List ℕ) → IsTrue (is v) → ¬ Takes (text v) (end v) bytes rest
+TakesNone {X} text end is bytes =
+    (v : X) (rest : List ℕ) → IsTrue (is v) → ¬ Takes (text v) (end v) bytes rest
 
 -- where a token of that kind ends
 abbrev pub end_of : Reach → End
@@ -66,7 +67,8 @@ is_link_from low v = int_le (pos low) v && int_lt v (pos Limits.most_instances)
 abbrev pub ascends_from : ℕ → List ℕ → Bool
 ascends_from low [] = false
 ascends_from low (j ∷ []) = nat_le low j && nat_lt j Limits.most_instances
-ascends_from low (j ∷ k ∷ ks) = nat_le low j && nat_lt j Limits.most_instances && ascends_from (j + 1) (k ∷ ks)
+ascends_from low (j ∷ k ∷ ks) =
+    nat_le low j && nat_lt j Limits.most_instances && ascends_from (j + 1) (k ∷ ks)
 
 -- further links behind others
 pub record AddsLinks (low : ℕ) (old new bytes rest : List ℕ) : Type 0 where
@@ -82,18 +84,23 @@ abbrev pub type_text : Model → ℕ → List ℕ
 type_text m t = codes " " ++ type_name m t
 
 -- values that can be written of all attributes of a type
-pub record AreValues (m : Model) (n kind : ℕ) (bytes : List ℕ) (values : List ℤ) (rest : List ℕ) : Type 0 where
-  pub begins : BeginsThen (map (attribute_part m (n + 2)) (zip (attributes_of m.types kind) values)) bytes rest
+pub record AreValues (m : Model) (n kind : ℕ) (bytes : List ℕ) (values : List ℤ) (rest : List ℕ)
+    : Type 0 where
+  pub begins :
+      BeginsThen (map (attribute_part m (n + 2)) (zip (attributes_of m.types kind) values))
+      bytes rest
   pub spelled : IsTrue (pointwise (is_spelled_value m) (attributes_at m kind) values)
 
 -- links that can be written of all ports of a type
-pub record AreLinks (m : Model) (n kind : ℕ) (bytes : List ℕ) (links : List (List ℕ)) (rest : List ℕ) : Type 0 where
+pub record AreLinks (m : Model) (n kind : ℕ) (bytes : List ℕ) (links : List (List ℕ))
+    (rest : List ℕ) : Type 0 where
   pub begins : BeginsThen (map (port_part (n + 2)) (zip (ports_of m.types kind) links)) bytes rest
   pub long : length links ≡ length (ports_of m.types kind)
   pub spelled : IsTrue (list_all is_spelled_links links)
 
 -- an instance that can be written, with its whole line
-pub record IsInstance (m : Model) (n : ℕ) (bytes : List ℕ) (x : Instance) (rest : List ℕ) : Type 0 where
+pub record IsInstance (m : Model) (n : ℕ) (bytes : List ℕ) (x : Instance) (rest : List ℕ)
+    : Type 0 where
   pub begins : BeginsThen (instance_parts m (n, x)) bytes rest
   pub spelled : IsTrue (is_spelled_instance m x)
 
@@ -110,8 +117,3 @@ pub record AreInstances (m : Model) (bytes : List ℕ) (c : List Instance) : Typ
 abbrev pub Refuses : Model → State → List ℕ → AnswerRefusal → Type 0
 Refuses m s bytes (Line fault) = Stops m s bytes fault.line fault.code
 Refuses m s bytes (Memory e) = Unit {0}
-
--- a refusal names the first bad line and its code; want of memory tells nothing
-abbrev pub IsRefusal : Model → List ℕ → AnswerRefusal → Type 0
-IsRefusal m bytes (Line fault) = IsFirstBadLine m bytes fault.line fault.code
-IsRefusal m bytes (Memory e) = Unit {0}

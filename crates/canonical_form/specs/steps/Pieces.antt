@@ -19,15 +19,20 @@ word_piece words (negsuc n) = []
 
 -- a number, or one of some words
 abbrev pub value_piece : List (List ℕ) → Domain → ℤ → List ℕ
-value_piece words domain v = elim domain [ Range low high ↦ signed_decimal v | Words own ↦ word_piece words v ]
+value_piece words domain v =
+    elim domain [ Range low high ↦ signed_decimal v | Words own ↦ word_piece words v ]
 
 -- a value that can be written where an attribute's first declaration has so many words
 abbrev pub is_written_value : ℕ → Domain → ℤ → Bool
-is_written_value words domain v = elim domain [ Range low high ↦ is_within Limits.farthest_end v | Words own ↦ is_word_place words v ]
+is_written_value words domain v = elim domain [
+  | Range low high ↦ is_within Limits.farthest_end v
+  | Words own ↦ is_word_place words v
+]
 
 -- ` NAME=VALUE`
 unfoldable pub attribute_piece : AttrDecl × (AttrAt × ℤ) → List ℕ
-attribute_piece p = codes " " ++ p.0.name ++ codes "=" ++ value_piece (words_of p.0.domain) p.1.0.domain p.1.1
+attribute_piece p =
+    codes " " ++ p.0.name ++ codes "=" ++ value_piece (words_of p.0.domain) p.1.0.domain p.1.1
 
 -- numbers with a comma between two of them
 abbrev pub numbers_piece : List ℕ → List ℕ
