@@ -19,7 +19,8 @@ use Rattle.type_taxonomy.specs.declared.forest.Forest.{Forest}
 use Rattle.type_taxonomy.specs.steps.Built.{IsBuilt}
 use Rattle.type_taxonomy.specs.steps.Entries.{named, placed_of}
 use Rattle.type_taxonomy.proofs.Items.{length_table, table_row, table_map_row}
-use Rattle.type_taxonomy.proofs.Finished.{under, attribute_at, port_at, attributes_finished, ports_finished}
+use Rattle.prod_model.proofs.MappedEntries.{under}
+use Rattle.type_taxonomy.proofs.Finished.{attribute_at, port_at, attributes_finished, ports_finished}
 
 pub length_attributes : (f : Forest) → IsBuilt f → length f.attributes ≡ length f.model.now.types
 length_attributes f built =

@@ -1,5 +1,5 @@
 -- Rows are filled, parents before the types under them.
-use Rattle.std.proofs.Common.{◌≡◌, ◌≢◌, ℕ, ◌+◌, ◌<◌, ◌≤◌, ◌⊎◌, suc, List, [], ◌++◌, length, map, get_or, set, inl, inr, sym, ap, ◌∙◌, refl, Option, Some, None, IfSome, slice_get, arith, rules, zero-add}
+use Rattle.std.proofs.Common.{◌≡◌, ◌≢◌, ℕ, ◌+◌, ◌<◌, ◌≤◌, ◌⊎◌, List, [], ◌++◌, length, map, get_or, set, inl, inr, sym, ap, ◌∙◌, refl, Option, Some, None, IfSome, slice_get, arith, rules, zero-add}
 use Rattle.std.specs.List.{All}
 use Rattle.std.specs.Option.{option_map_or}
 use Rattle.std.proofs.lemmas.Bool.{cases_eq}
@@ -8,21 +8,16 @@ use Rattle.std.proofs.lemmas.List.FromFn.{fill_by_all, get_or-map-range_with_len
 use Rattle.std.proofs.Math.ListN.{length-set}
 use Rattle.prod_model.specs.declared.model.TypeDecl.{TypeDecl}
 use Rattle.prod_model.specs.Forest.{line, type_numbers}
+use Rattle.prod_model.proofs.Ancestors.{length_line_parent}
 use Rattle.type_taxonomy.specs.declared.entry.Entry.{Entry}
 use Rattle.type_taxonomy.specs.steps.Entries.{named, narrowed_by, new_of, placed_of}
 use Rattle.type_taxonomy.specs.steps.TypeForest.{IsForest, HasRows}
-use Rattle.type_taxonomy.proofs.ForestLaws.{line_step, placed_of_step}
+use Rattle.type_taxonomy.proofs.RowLaws.{placed_of_step}
 use Rattle.type_taxonomy.proofs.Items.{length_table}
 
 -- the types whose lines are shorter, and those of this length before this type
 abbrev pub IsFilled : List TypeDecl → ℕ → ℕ → ℕ → Type 0
 IsFilled types members t u = (length (line types u) < members) ⊎ ((length (line types u) ≡ members) × (u < t))
-
--- a parent's line is shorter by one
-pub length_line_parent : (types : List TypeDecl) (t p : ℕ) (d : TypeDecl) → slice_get types t ≡ Some d → length (line types t) ≤ length types → d.parent ≡ Some p
-    → length (line types t) ≡ suc (length (line types p))
-length_line_parent types t p d is_type ends is_parent =
-    ap length (line_step types t d is_type ends) ∙ ap (λ o. suc (length (option_map_or (line types) o []))) is_parent
 
 filled_before : (types : List TypeDecl) (members t u : ℕ) → length (line types t) ≢ members → IsFilled types members (t + 1) u → (u ≡ t) ⊎ (u ≡ t → ⊥) → IsFilled types members t u
 filled_before types members t u other (inl shorter) which = inl shorter
@@ -43,13 +38,12 @@ module _ {D : Type 0} (declared : TypeDecl → List D) (name_of : D → List ℕ
       → map (named name_of) row ≡ narrowed_by declared name_of (declared d) (option_map_or (λ p. map (named name_of) (get_or rows p [])) d.parent []) ++ map (named name_of) new
       → map (named name_of) row ≡ placed_of declared name_of types t
   row_done types members t d rows row new forest filled within is_type is_length is_new is_row =
-      let ends = forest.ends t within in
       let parent_done : (p : ℕ) → d.parent ≡ Some p → (p < length types) × IsFilled types members t p =
-      λ p is_parent. (forest.known t p d is_type is_parent, inl (omega (arith, length_line_parent types t p d is_type ends is_parent))) in
+      λ p is_parent. (forest.known t p d is_type is_parent, inl (omega (arith, length_line_parent types forest.no_cycle t p (record { decl = d; stands = is_type; parent = is_parent })))) in
       is_row
       ∙ ap (λ above. narrowed_by declared name_of (declared d) above ++ map (named name_of) new) (inherited_done types (IsFilled types members t) rows d.parent filled parent_done)
       ∙ ap (λ last. narrowed_by declared name_of (declared d) (option_map_or (placed_of declared name_of types) d.parent []) ++ last) is_new
-      ∙ sym (placed_of_step declared name_of types t d is_type ends)
+      ∙ sym (placed_of_step declared name_of types t d forest is_type)
 
   done_after : (types : List TypeDecl) (members t u : ℕ) (rows : List (List (Entry D))) (row : List (Entry D)) → HasRows declared name_of types (IsFilled types members t) rows
       → t < length types → map (named name_of) row ≡ placed_of declared name_of types t → u < length types → IsFilled types members (t + 1) u → (u ≡ t) ⊎ (u ≡ t → ⊥)

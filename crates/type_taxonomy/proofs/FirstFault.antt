@@ -16,7 +16,8 @@ use Rattle.prod_model.specs.Valid.{knows_types, has_room_at}
 use Rattle.type_taxonomy.specs.declared.fault.TaxFault.{TaxFault}
 use Rattle.type_taxonomy.specs.declared.fault.TaxFault.TheVariants.{UnknownParent, Cycle, Widening, Crowded}
 use Rattle.type_taxonomy.specs.steps.Built.{attribute_narrows_at, port_narrows_at, NarrowsAll, IsWideningOf, IsFirstWidening, of_attribute, of_port}
-use Rattle.type_taxonomy.specs.Faults.{Has, HasTaxFault, unknown_parent, cycle, wider_attribute, wider_port, crowded, rank_of, IsFaultBefore, IsFirstTaxFault, Faults}
+use Rattle.base_laws.specs.Places.{IsAt}
+use Rattle.type_taxonomy.specs.Faults.{HasTaxFault, unknown_parent, cycle, wider_attribute, wider_port, crowded, rank_of, IsFaultBefore, IsFirstTaxFault, Faults}
 use Rattle.type_taxonomy.specs.steps.Firsts.{IsFirstFailing}
 use Rattle.type_taxonomy.specs.Nearest.{AttributeNarrows, PortNarrows}
 use Rattle.type_taxonomy.specs.steps.NearestTests.{attribute_narrows_nearest, port_narrows_nearest}
@@ -46,27 +47,27 @@ abbrev pub HasNoCircleBelow : Model → ℕ → Type 0
 HasNoCircleBelow m n = (k : ℕ) → k < n → IsTrue (not (is_in_circle m k))
 
 abbrev pub NarrowsBelow : Model → ℕ → Type 0
-NarrowsBelow m n = (t : ℕ) (d : TypeDecl) → t < n → Has m.types t d → NarrowsAll m t d
+NarrowsBelow m n = (t : ℕ) (d : TypeDecl) → t < n → IsAt m.types t d → NarrowsAll m t d
 
 abbrev pub HasRoomBelow : Model → ℕ → Type 0
 HasRoomBelow m n = (k : ℕ) → k < n → IsTrue (has_room_at m k)
 
-told_apart : {A : Type 0} (p : A → Bool) (xs : List A) (k : ℕ) (x : A) → Has xs k x → IsFalse (p x) → IsTrue (option_map_or p (slice_get xs k) true) → ⊥
+told_apart : {A : Type 0} (p : A → Bool) (xs : List A) (k : ℕ) (x : A) → IsAt xs k x → IsFalse (p x) → IsTrue (option_map_or p (slice_get xs k) true) → ⊥
 told_apart p xs k x has fails passes = let there = ap (λ o. option_map_or p o true) has in cc
 
 not_both : (b : Bool) → IsTrue b → IsTrue (not b) → ⊥
 not_both b holds fails = let turned = ap not holds in cc
 
-wide_attribute_told : (m : Model) (t : ℕ) (d : TypeDecl) (k : ℕ) (a : AttrDecl) → Has d.attributes k a → (AttributeNarrows m t a → ⊥) → IsTrue (attribute_narrows_at m t d k) → ⊥
+wide_attribute_told : (m : Model) (t : ℕ) (d : TypeDecl) (k : ℕ) (a : AttrDecl) → IsAt d.attributes k a → (AttributeNarrows m t a → ⊥) → IsTrue (attribute_narrows_at m t d k) → ⊥
 wide_attribute_told m t d k a has fails passes = fails (attribute_passed m t a (sym (ap (λ o. option_map_or (attribute_narrows_nearest m t) o true) has) ∙ passes))
 
-wide_port_told : (m : Model) (t : ℕ) (d : TypeDecl) (k : ℕ) (p : PortDecl) → Has d.ports k p → (PortNarrows m t p → ⊥) → IsTrue (port_narrows_at m t d k) → ⊥
+wide_port_told : (m : Model) (t : ℕ) (d : TypeDecl) (k : ℕ) (p : PortDecl) → IsAt d.ports k p → (PortNarrows m t p → ⊥) → IsTrue (port_narrows_at m t d k) → ⊥
 wide_port_told m t d k p has fails passes = fails (port_passed m t p (sym (ap (λ o. option_map_or (port_narrows_nearest m t) o true) has) ∙ passes))
 
-no_wide_attribute : (m : Model) (t : ℕ) (d : TypeDecl) (k : ℕ) (a : AttrDecl) → Has d.attributes k a → (AttributeNarrows m t a → ⊥) → NarrowsAll m t d → ⊥
+no_wide_attribute : (m : Model) (t : ℕ) (d : TypeDecl) (k : ℕ) (a : AttrDecl) → IsAt d.attributes k a → (AttributeNarrows m t a → ⊥) → NarrowsAll m t d → ⊥
 no_wide_attribute m t d k a has fails all = wide_attribute_told m t d k a has fails (all.attributes k (slice_get_within d.attributes k a has))
 
-no_wide_port : (m : Model) (t : ℕ) (d : TypeDecl) (k : ℕ) (p : PortDecl) → Has d.ports k p → (PortNarrows m t p → ⊥) → NarrowsAll m t d → ⊥
+no_wide_port : (m : Model) (t : ℕ) (d : TypeDecl) (k : ℕ) (p : PortDecl) → IsAt d.ports k p → (PortNarrows m t p → ⊥) → NarrowsAll m t d → ⊥
 no_wide_port m t d k p has fails all = wide_port_told m t d k p has fails (all.ports k (slice_get_within d.ports k p has))
 
 -- ---- none before
@@ -107,7 +108,7 @@ none_before_crowded m t known free narrow room y (crowded u is within full) befo
       | inr same ↦ let no = same.1 in cc
     ]
 
-same_type : (types : List TypeDecl) (u t : ℕ) (e d : TypeDecl) → u ≡ t → Has types u e → Has types t d → e ≡ d
+same_type : (types : List TypeDecl) (u t : ℕ) (e d : TypeDecl) → u ≡ t → IsAt types u e → IsAt types t d → e ≡ d
 same_type types u t e d same here there = let moved = ap (slice_get types) same in cc
 
 -- a test of a place, of one type by two names
@@ -115,9 +116,9 @@ same_place : (test : Model → ℕ → TypeDecl → ℕ → Bool) (m : Model) (t
 same_place test m t u d e j same equal passes = ap (λ v. test m v e j) same ∙ ap (λ f. test m t f j) equal ∙ passes
 
 abbrev NarrowsBefore : Model → ℕ → Type 0
-NarrowsBefore m t = (u : ℕ) (e : TypeDecl) → u < t → Has m.types u e → NarrowsAll m u e
+NarrowsBefore m t = (u : ℕ) (e : TypeDecl) → u < t → IsAt m.types u e → NarrowsAll m u e
 
-none_before_attribute : (m : Model) (t k : ℕ) (d : TypeDecl) → Has m.types t d → KnowsBelow m (length m.types) → HasNoCircleBelow m (length m.types) → NarrowsBefore m t
+none_before_attribute : (m : Model) (t k : ℕ) (d : TypeDecl) → IsAt m.types t d → KnowsBelow m (length m.types) → HasNoCircleBelow m (length m.types) → NarrowsBefore m t
     → ((j : ℕ) → j < k → IsTrue (attribute_narrows_at m t d j)) → (y : TaxFault) → HasTaxFault m y → IsFaultBefore y (Widening t false k) → ⊥
 none_before_attribute m t k d here known free narrow below y (unknown_parent u e is has fails) before =
     told_apart (knows_types m) m.types u e has fails (known u (slice_get_within m.types u e has))
@@ -139,7 +140,7 @@ none_before_attribute m t k d here known free narrow below y (wider_port u j e p
     ]
 none_before_attribute m t k d here known free narrow below y (crowded u is within full) before = let never = ranked (Widening t false k) y (Crowded u) is before in cc
 
-none_before_port : (m : Model) (t k : ℕ) (d : TypeDecl) → Has m.types t d → KnowsBelow m (length m.types) → HasNoCircleBelow m (length m.types) → NarrowsBefore m t
+none_before_port : (m : Model) (t k : ℕ) (d : TypeDecl) → IsAt m.types t d → KnowsBelow m (length m.types) → HasNoCircleBelow m (length m.types) → NarrowsBefore m t
     → ((j : ℕ) → j < length d.attributes → IsTrue (attribute_narrows_at m t d j)) → ((j : ℕ) → j < k → IsTrue (port_narrows_at m t d j))
     → (y : TaxFault) → HasTaxFault m y → IsFaultBefore y (Widening t true k) → ⊥
 none_before_port m t k d here known free narrow attributes below y (unknown_parent u e is has fails) before =
@@ -169,7 +170,7 @@ none_before_port m t k d here known free narrow attributes below y (crowded u is
 -- ---- the fault that is found is the first
 
 -- the element whose test fails
-failing : {A : Type 0} (p : A → Bool) (xs : List A) (k : ℕ) (o : Option A) → slice_get xs k ≡ o → IsFalse (option_map_or p o true) → (x : A) × Has xs k x × IsFalse (p x)
+failing : {A : Type 0} (p : A → Bool) (xs : List A) (k : ℕ) (o : Option A) → slice_get xs k ≡ o → IsFalse (option_map_or p o true) → (x : A) × IsAt xs k x × IsFalse (p x)
 failing p xs k None is fails = cc
 failing p xs k (Some x) is fails = (x, is, fails)
 
@@ -190,7 +191,7 @@ pub crowded_first : (m : Model) (t : ℕ) → KnowsBelow m (length m.types) → 
 crowded_first m t known free narrow first =
     record { is = crowded t refl first.0 first.1; none_before = none_before_crowded m t known free narrow first.2 }
 
-widening_of_first : (m : Model) (f : TaxFault) (t : ℕ) (d : TypeDecl) → Has m.types t d → KnowsBelow m (length m.types) → HasNoCircleBelow m (length m.types) → NarrowsBefore m t
+widening_of_first : (m : Model) (f : TaxFault) (t : ℕ) (d : TypeDecl) → IsAt m.types t d → KnowsBelow m (length m.types) → HasNoCircleBelow m (length m.types) → NarrowsBefore m t
     → IsWideningOf m t d f → Faults m f
 widening_of_first m f t d here known free narrow (of_attribute k is first) =
     let found = failing (attribute_narrows_nearest m t) d.attributes k (slice_get d.attributes k) refl first.1 in

@@ -12,7 +12,8 @@ use Rattle.prod_model.specs.Forest.{is_a}
 use Rattle.prod_model.specs.Taxonomy.{Named, attributes_of, ports_of}
 use Rattle.prod_model.specs.Valid.{inherited, narrows_domain, same_kind, attribute_narrows, port_narrows}
 use Rattle.type_taxonomy.specs.steps.Entries.{placed_of}
-use Rattle.type_taxonomy.proofs.Finished.{under, attribute_at, port_at, attributes_finished, ports_finished}
+use Rattle.prod_model.proofs.MappedEntries.{under}
+use Rattle.type_taxonomy.proofs.Finished.{attribute_at, port_at, attributes_finished, ports_finished}
 
 pub find_map_cons : {A B : Type 0} (f : A → B) (b : Bool) (x : A) (r : Option B) (q : Option A) → r ≡ option_map f q → cond b (Some (f x)) r ≡ option_map f (cond b (Some x) q)
 find_map_cons f true x r q same = refl

@@ -1,12 +1,9 @@
 pub mod AboveLaws
-pub mod BoolFacts
 pub mod BuiltLaws
 pub mod ByNameLaws
-pub mod DistinctNames
 pub mod Filling
 pub mod Finished
 pub mod FirstFault
-pub mod ForestLaws
 pub mod FormedLaws
 pub mod Inherited
 pub mod Items

@@ -1,8 +1,8 @@
 -- The tests of whether a declaration narrows the nearest of its name hold exactly in the two cases.
-use Rattle.std.proofs.Common.{◌≡◌, ℕ, Bool, true, false, ◌&&◌, nat_le, IsTrue, IsFalse, ◌∙◌, refl, ap, sym, inl, inr, Option, Some, None, arith}
+use Rattle.std.proofs.Common.{◌≡◌, ℕ, Bool, true, false, nat_le, IsTrue, IsFalse, ◌∙◌, refl, ap, sym, inl, inr, Option, Some, None, arith}
 use Rattle.std.specs.Option.{option_map_or}
 use Rattle.std.specs.List.{find}
-use Rattle.std.proofs.lemmas.Bool.{leb-true, false≢true}
+use Rattle.std.proofs.lemmas.Bool.{and_from, and_parts, leb-true, false≢true}
 use Rattle.std.proofs.lemmas.Bool.Decides.{nat_tests}
 use Rattle.prod_model.specs.declared.model.Model.{Model}
 use Rattle.prod_model.specs.declared.model.TypeDecl.{TypeDecl}
@@ -10,12 +10,10 @@ use Rattle.prod_model.specs.declared.model.AttrDecl.{AttrDecl}
 use Rattle.prod_model.specs.declared.model.PortDecl.{PortDecl}
 use Rattle.prod_model.specs.declared.model.PortKind.{PortKind}
 use Rattle.prod_model.specs.declared.model.PortKind.TheVariants.{Part, Shared}
-use Rattle.prod_model.specs.Forest.{is_a}
 use Rattle.prod_model.specs.Names.{same_text}
 use Rattle.prod_model.specs.Valid.{narrows_domain, same_kind}
 use Rattle.type_taxonomy.specs.Nearest.{nearest, AttributeNarrows, PortNarrows, LiesWithin}
 use Rattle.type_taxonomy.specs.steps.NearestTests.{lies_within, attribute_narrows_nearest, port_narrows_nearest}
-use Rattle.type_taxonomy.proofs.BoolFacts.{and_both, and_parts}
 
 -- ---- attributes
 
@@ -75,7 +73,7 @@ within_passes m p q within =
     let kind : same_kind p.kind q.kind ≡ true = ap (same_kind p.kind) (sym within.kind) ∙ same_kind_refl p.kind in
     let low : nat_le q.low p.low ≡ true = grind (arith, nat_tests, within.low) in
     let high : nat_le p.high q.high ≡ true = grind (arith, nat_tests, within.high) in
-    and_both _ _ (and_both _ _ (and_both _ _ kind low) high) within.target
+    and_from _ _ (and_from _ _ (and_from _ _ kind low) high) within.target
 
 abbrev port_of_name : PortDecl → TypeDecl → Option PortDecl
 port_of_name p d = find (λ q. same_text q.name p.name) d.ports

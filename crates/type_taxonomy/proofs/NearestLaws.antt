@@ -1,41 +1,35 @@
 -- What a type has under a name is what the nearest type of its line that declares it says.
-use Rattle.std.proofs.Common.{◌≡◌, ℕ, ◌+◌, ◌≤◌, zero, suc, Bool, true, false, cond, not, ◌||◌, List, [], ◌∷◌, ◌++◌, length, map, drop, fold, reverse, sym, ap, subst, ◌∙◌, refl, Option, Some, None, slice_get, arith}
+use Rattle.std.proofs.Common.{◌≡◌, ℕ, ◌+◌, Bool, true, false, cond, not, ◌||◌, List, [], ◌∷◌, ◌++◌, map, fold, reverse, sym, ap, subst, ◌∙◌, refl, Option, Some, None, slice_get}
 use Rattle.std.specs.Option.{option_map, option_map_or, option_or}
 use Rattle.std.specs.List.{find, filter, filter_map, cons_option, flat_map, list_any}
 use Rattle.std.specs.Cmp.Lexicographic.{same_text as text_of_same}
+use Rattle.std.proofs.lemmas.Bool.{or_from}
 use Rattle.std.proofs.lemmas.List.Folds.{find-append, list_any-append}
-use Rattle.std.proofs.lemmas.Option.{slice_get_within}
+use Rattle.base_laws.proofs.Places.{find_at}
 use Rattle.prod_model.specs.declared.model.TypeDecl.{TypeDecl}
-use Rattle.prod_model.specs.Forest.{line, line_within, ancestors}
+use Rattle.prod_model.specs.Forest.{line, ancestors}
 use Rattle.prod_model.specs.Names.{same_text}
 use Rattle.prod_model.specs.Taxonomy.{Named, declarations_of, kept_entry, new_declarations, first_id, extended_entries}
+use Rattle.prod_model.proofs.Ancestors.{ancestors_of_parent, line_none}
+use Rattle.prod_model.proofs.ForestLines.{line_of_parent}
+use Rattle.prod_model.proofs.LineLaws.{along_lines}
 use Rattle.prod_model.proofs.NameLaws.{same_text_symm}
 use Rattle.type_taxonomy.specs.steps.Entries.{placed, placed_again, is_new_among, numbered, narrowed_by, new_of, placed_of}
 use Rattle.type_taxonomy.specs.steps.TypeForest.{IsForest}
-use Rattle.type_taxonomy.proofs.Filling.{length_line_parent}
-use Rattle.type_taxonomy.proofs.ForestLaws.{line_step, placed_of_step}
 use Rattle.type_taxonomy.proofs.Inherited.{find_map_cons, placed_above}
-use Rattle.type_taxonomy.proofs.RowLaws.{find_passes}
+use Rattle.type_taxonomy.proofs.RowLaws.{placed_of_step}
 
 -- ---- the types of a line
 
 abbrev pub kinds_of : List TypeDecl → List ℕ → List TypeDecl
 kinds_of types line = filter_map (slice_get types) line
 
--- the ancestors of a type are its parent's line
-pub ancestors_step : (types : List TypeDecl) (t : ℕ) (d : TypeDecl) → IsForest types → slice_get types t ≡ Some d → ancestors types t ≡ option_map_or (line types) d.parent []
-ancestors_step types t d forest is_type = ap (drop 1) (line_step types t d is_type (forest.ends t (slice_get_within types t d is_type)))
-
 -- the types of a line are the type, and then those of its parent's line
 pub kinds_step : (types : List TypeDecl) (t : ℕ) (d : TypeDecl) → IsForest types → slice_get types t ≡ Some d
     → kinds_of types (line types t) ≡ d ∷ kinds_of types (option_map_or (line types) d.parent [])
 kinds_step types t d forest is_type =
-    ap (kinds_of types) (line_step types t d is_type (forest.ends t (slice_get_within types t d is_type)))
+    ap (kinds_of types) (line_of_parent types forest.no_cycle t d is_type)
     ∙ ap (λ o. cons_option o (kinds_of types (option_map_or (line types) d.parent []))) is_type
-
--- no line starts where there is no type
-pub line_none : (types : List TypeDecl) (t : ℕ) → slice_get types t ≡ None → line types t ≡ []
-line_none types t none = ap (λ o. option_map_or (λ d. t ∷ option_map_or (line_within (length types) types) d.parent []) o []) none
 
 pub or_none : {A : Type 0} (o p : Option A) → option_or o p ≡ None → (o ≡ None) × (p ≡ None)
 or_none None p none = (refl, none)
@@ -104,9 +98,6 @@ module _ {D : Type 0} (declared : TypeDecl → List D) (name_of : D → List ℕ
       ap (λ b. b || list_any (λ e. same_text name (name_of e)) ds) (same_text_symm name (name_of d))
       ∙ of_name_cons (same_text (name_of d) name) d (of_name name ds) (list_any (λ e. same_text name (name_of e)) ds) none (undeclared name ds)
 
-  any_false : (a b : Bool) → a ≡ false → b ≡ false → (a || b) ≡ false
-  any_false a b first second = ap (λ x. x || b) first ∙ second
-
   undeclared_at : (name : List ℕ) (kind : Option TypeDecl) (above : List TypeDecl) → first_named name (cons_option kind above) ≡ None
       → (list_any (λ e. same_text name (name_of e)) (option_map_or declared kind []) ≡ false) × (first_named name above ≡ None)
   undeclared_at name None above none = (refl, none)
@@ -121,7 +112,7 @@ module _ {D : Type 0} (declared : TypeDecl → List D) (name_of : D → List ℕ
   undeclared_along types name (t ∷ line) none =
       let parts = undeclared_at name (slice_get types t) (kinds_of types line) none in
       list_any-append (λ e. same_text name (name_of e)) (declarations_of declared name_of types t) (flat_map (declarations_of declared name_of types) line)
-      ∙ any_false _ _ parts.0 (undeclared_along types name line parts.1)
+      ∙ or_from _ _ parts.0 (undeclared_along types name line parts.1)
 
   -- ---- the entries of a type
 
@@ -156,7 +147,7 @@ module _ {D : Type 0} (declared : TypeDecl → List D) (name_of : D → List ℕ
       (find_kept ds name inherited ∙ ap (option_map (kept_entry declared name_of (placed declared name_of) (placed_again declared name_of) ds)) is))
       ∙ is_new none ∙ sym (or_with_none (of_name name ds)) ∙ ap (option_or (of_name name ds)) is_above
   under_both ds name inherited new above (Some e) is is_above is_new =
-      let same : e.name ≡ name = text_of_same e.name name (sym (find_passes (λ x. same_text x.name name) inherited e is)) in
+      let same : e.name ≡ name = text_of_same e.name name (sym (find_at (λ x. same_text x.name name) inherited e is).2) in
       ap (option_map (λ x. x.what.1)) (find-append (λ x. same_text x.name name) (narrowed_by declared name_of ds inherited) new
       ∙ ap (λ o. option_or o (find (λ x. same_text x.name name) new))
       (find_kept ds name inherited ∙ ap (option_map (kept_entry declared name_of (placed declared name_of) (placed_again declared name_of) ds)) is))
@@ -182,28 +173,25 @@ module _ {D : Type 0} (declared : TypeDecl → List D) (name_of : D → List ℕ
   under_at types t name (Some d) forest is_type each =
       let inherited = option_map_or (placed_of declared name_of types) d.parent [] in
       let above = first_named name (kinds_of types (option_map_or (line types) d.parent [])) in
-      ap (under_name name) (placed_of_step declared name_of types t d is_type (forest.ends t (slice_get_within types t d is_type)))
+      ap (under_name name) (placed_of_step declared name_of types t d forest is_type)
       ∙ under_both (declared d) name inherited (new_of declared name_of types t) above (find (λ e. same_text e.name name) inherited) refl
       (under_parent types name d.parent (λ p is_parent. each p d refl is_parent))
-      (λ none. new_under types t d name is_type (ap (λ l. first_named name (kinds_of types l)) (ancestors_step types t d forest is_type) ∙ none))
+      (λ none. new_under types t d name is_type (ap (λ l. first_named name (kinds_of types l)) (ancestors_of_parent types forest.no_cycle t d is_type) ∙ none))
       ∙ sym (ap (first_named name) (kinds_step types t d forest is_type))
 
-  under_line : (types : List TypeDecl) (n t : ℕ) (name : List ℕ) → IsForest types → length (line types t) ≤ n
+  under_line : (types : List TypeDecl) (name : List ℕ) → IsForest types → (t : ℕ)
       → under_name name (placed_of declared name_of types t) ≡ first_named name (kinds_of types (line types t))
-  under_line types zero t name forest short =
-      under_at types t name (slice_get types t) forest refl
-      (λ p d is_type is_parent. absurd (omega (arith, length_line_parent types t p d is_type (forest.ends t (slice_get_within types t d is_type)) is_parent)))
-  under_line types (suc n) t name forest short =
-      under_at types t name (slice_get types t) forest refl
-      (λ p d is_type is_parent. under_line types n p name forest (omega (arith, length_line_parent types t p d is_type (forest.ends t (slice_get_within types t d is_type)) is_parent)))
+  under_line types name forest =
+      along_lines types forest.no_cycle (λ t. under_name name (placed_of declared name_of types t) ≡ first_named name (kinds_of types (line types t)))
+      (λ t each. under_at types t name (slice_get types t) forest refl (λ p d is_type is_parent. each p (record { decl = d; stands = is_type; parent = is_parent })))
 
   above_parent : (types : List TypeDecl) (parent : Option ℕ) (name : List ℕ) → IsForest types
       → option_map (λ e. e.what.1) (placed_above declared name_of types parent name) ≡ first_named name (kinds_of types (option_map_or (line types) parent []))
   above_parent types None name forest = refl
-  above_parent types (Some p) name forest = under_line types (length (line types p)) p name forest (omega arith)
+  above_parent types (Some p) name forest = under_line types name forest p
 
   -- what the parent of a type has under the name is what the nearest ancestor that declares it says
   pub above_nearest : (types : List TypeDecl) (t : ℕ) (d : TypeDecl) (name : List ℕ) → IsForest types → slice_get types t ≡ Some d
       → option_map (λ e. e.what.1) (placed_above declared name_of types d.parent name) ≡ first_named name (kinds_of types (ancestors types t))
   above_nearest types t d name forest is_type =
-      above_parent types d.parent name forest ∙ ap (λ l. first_named name (kinds_of types l)) (sym (ancestors_step types t d forest is_type))
+      above_parent types d.parent name forest ∙ ap (λ l. first_named name (kinds_of types l)) (sym (ancestors_of_parent types forest.no_cycle t d is_type))

@@ -8,7 +8,7 @@ use Rattle.prod_model.specs.Forest.{line}
 use Rattle.prod_model.specs.Taxonomy.{first_id, new_declarations}
 use Rattle.type_taxonomy.specs.declared.entry.Entry.{Entry}
 use Rattle.type_taxonomy.specs.steps.Entries.{named, is_new_among, numbered}
-use Rattle.type_taxonomy.proofs.Items.{filter_more, sum_by_range_more, length_filter_le}
+use Rattle.type_taxonomy.proofs.Items.{filter_next, sum_by_range_more, length_filter_le}
 
 module _ {D : Type 0} (declared : TypeDecl → List D) (name_of : D → List ℕ) where
   pub length_numbered : (id : ℕ) (ds : List D) → length (numbered declared name_of id ds) ≡ length ds
@@ -33,7 +33,7 @@ module _ {D : Type 0} (declared : TypeDecl → List D) (name_of : D → List ℕ
       let d = e.declared.now in
       let kept = filter p (take i ds) in
       let size : length row ≡ length kept = sym (length-map row (named name_of)) ∙ ap length so_far ∙ length_numbered first kept in
-      let more : filter p (take (i + 1) ds) ≡ kept ++ d ∷ [] = filter_more p ds i d within is ∙ ap (λ b. kept ++ cond b (d ∷ []) []) passes in
+      let more : filter p (take (i + 1) ds) ≡ kept ++ d ∷ [] = filter_next p ds i d within is ∙ ap (λ b. kept ++ cond b (d ∷ []) []) passes in
       ap (map (named name_of)) pushed ∙ map-append (named name_of) row (e ∷ [])
       ∙ ap (λ l. l ++ named name_of e ∷ []) so_far
       ∙ ap (λ k. numbered declared name_of first kept ++ record { name = name_of d; what = (k, d) } ∷ []) (is_id ∙ ap (λ k. first + k) size)
@@ -45,7 +45,7 @@ module _ {D : Type 0} (declared : TypeDecl → List D) (name_of : D → List ℕ
       → map (named name_of) row ≡ numbered declared name_of first (filter p (take (i + 1) ds))
   numbered_same first p ds i row d within is fails so_far =
       let kept = filter p (take i ds) in
-      let same : filter p (take (i + 1) ds) ≡ kept = filter_more p ds i d within is ∙ ap (λ b. kept ++ cond b (d ∷ []) []) fails ∙ append-nil kept in
+      let same : filter p (take (i + 1) ds) ≡ kept = filter_next p ds i d within is ∙ ap (λ b. kept ++ cond b (d ∷ []) []) fails ∙ append-nil kept in
       so_far ∙ ap (numbered declared name_of first) (sym same)
 
   -- what is new in a type, from the type and its line

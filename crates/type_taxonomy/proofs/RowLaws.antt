@@ -1,35 +1,36 @@
 -- What a type has: its parent's entries narrowed, and then what is new.
-use Rattle.std.proofs.Common.{◌≡◌, ℕ, ◌+◌, ◌<◌, Bool, true, false, cond, List, [], ◌∷◌, ◌++◌, length, get_or, take, map, sym, ap, ◌∙◌, refl, Option, Some, None, append_assoc}
+use Rattle.std.proofs.Common.{◌≡◌, ℕ, ◌+◌, ◌<◌, List, [], ◌∷◌, ◌++◌, length, get_or, take, map, sym, ap, ◌∙◌, refl, Option, Some, None, append_assoc, slice_get}
 use Rattle.std.specs.Option.{option_map, option_map_or}
 use Rattle.std.specs.List.{find}
 use Rattle.std.specs.Cmp.Lexicographic.{same_text as text_of_same}
 use Rattle.std.proofs.lemmas.List.{map-append, take_more}
+use Rattle.base_laws.proofs.Places.{find_at}
 use Rattle.prod_model.specs.declared.model.TypeDecl.{TypeDecl}
 use Rattle.prod_model.specs.Names.{same_text}
 use Rattle.prod_model.specs.Taxonomy.{kept_entry}
+use Rattle.prod_model.proofs.EntryLaws.{entries_of_parent}
 use Rattle.type_taxonomy.specs.declared.entry.Entry.{Entry}
 use Rattle.type_taxonomy.specs.steps.ByName.{found_at}
-use Rattle.type_taxonomy.specs.steps.Entries.{named, placed, placed_again, narrowed_by}
-
-cond_passes : {X : Type 0} (p : X → Bool) (b : Bool) (y x : X) (rest : Option X) → p y ≡ b → (rest ≡ Some x → p x ≡ true) → cond b (Some y) rest ≡ Some x → p x ≡ true
-cond_passes p true y x rest is later found =
-    let same : y ≡ x = cc in
-    ap p (sym same) ∙ is
-cond_passes p false y x rest is later found = later found
-
--- what a search finds passes the test
-pub find_passes : {X : Type 0} (p : X → Bool) (xs : List X) (x : X) → find p xs ≡ Some x → p x ≡ true
-find_passes p [] x found = cc
-find_passes p (y ∷ ys) x found = cond_passes p (p y) y x (find p ys) refl (find_passes p ys x) found
+use Rattle.type_taxonomy.specs.steps.Entries.{named, placed, placed_again, narrowed_by, new_of, placed_of}
+use Rattle.type_taxonomy.specs.steps.TypeForest.{IsForest}
 
 module _ {D : Type 0} (declared : TypeDecl → List D) (name_of : D → List ℕ) where
+  -- what a type has is what its parent has, narrowed, and then what is new
+  pub placed_of_step : (types : List TypeDecl) (t : ℕ) (d : TypeDecl) → IsForest types → slice_get types t ≡ Some d
+      → placed_of declared name_of types t
+      ≡ narrowed_by declared name_of (declared d) (option_map_or (placed_of declared name_of types) d.parent []) ++ new_of declared name_of types t
+  unfolding placed_of
+  placed_of_step types t d forest is_type =
+      entries_of_parent declared name_of (placed declared name_of) (placed_again declared name_of) types forest.no_cycle t d is_type
+      ∙ ap (λ kind. narrowed_by declared name_of (option_map_or declared kind []) (option_map_or (placed_of declared name_of types) d.parent []) ++ new_of declared name_of types t) is_type
+
   narrowed_by_found : (ds : List D) (e after : Entry D) (found : Option D) → find (λ d. same_text (name_of d) (name_of e.declared.now)) ds ≡ found → after.id ≡ e.id
       → after.declared.now ≡ option_map_or (λ (f : ℕ × D). f.1) (option_map (λ d. (1, d)) found) e.declared.now
       → named name_of after ≡ option_map_or (λ d. record { name = name_of e.declared.now; what = (e.id, d) }) found (named name_of e)
   narrowed_by_found ds e after None found is_id is =
       ap (λ d. record { name = name_of d; what = (after.id, d) }) is ∙ ap (λ k. record { name = name_of e.declared.now; what = (k, e.declared.now) }) is_id
   narrowed_by_found ds e after (Some d) found is_id is =
-      let same : name_of d ≡ name_of e.declared.now = text_of_same _ _ (sym (find_passes (λ x. same_text (name_of x) (name_of e.declared.now)) ds d found)) in
+      let same : name_of d ≡ name_of e.declared.now = text_of_same _ _ (sym (find_at (λ x. same_text (name_of x) (name_of e.declared.now)) ds d found).2) in
       ap (λ x. record { name = name_of x; what = (after.id, x) }) is ∙ ap (λ n. record { name = n; what = (after.id, d) }) same
       ∙ ap (λ k. record { name = name_of e.declared.now; what = (k, d) }) is_id
 

@@ -1,24 +1,23 @@
 -- Where each declaration narrows the nearest of its name, a line declares no name both as an attribute and as a port.
-use Rattle.std.proofs.Common.{◌≡◌, ℕ, ◌≤◌, zero, suc, Bool, true, false, cond, ◌||◌, List, [], ◌∷◌, length, sym, ap, subst, ◌∙◌, refl, Option, Some, None, is_some, slice_get, arith}
+use Rattle.std.proofs.Common.{◌≡◌, ℕ, Bool, true, false, cond, ◌||◌, List, [], ◌∷◌, sym, ap, subst, ◌∙◌, refl, Option, Some, None, is_some, slice_get}
 use Rattle.std.specs.Option.{option_map_or, option_or}
-use Rattle.std.specs.List.{find, list_any, position_or_len}
+use Rattle.std.specs.List.{find, list_any}
 use Rattle.std.specs.Cmp.Lexicographic.{same_text as text_of_same}
-use Rattle.std.proofs.lemmas.List.Folds.{find_at}
-use Rattle.std.proofs.lemmas.Option.{slice_get_within}
+use Rattle.base_laws.proofs.Places.{find_at}
 use Rattle.prod_model.specs.declared.model.TypeDecl.{TypeDecl}
 use Rattle.prod_model.specs.Forest.{line, ancestors}
 use Rattle.prod_model.specs.Names.{same_text}
+use Rattle.prod_model.proofs.Ancestors.{ancestors_of_parent, line_none}
+use Rattle.prod_model.proofs.LineLaws.{along_lines}
 use Rattle.type_taxonomy.specs.Nearest.{declares}
 use Rattle.type_taxonomy.specs.steps.TypeForest.{IsForest}
-use Rattle.type_taxonomy.proofs.Filling.{length_line_parent}
-use Rattle.type_taxonomy.proofs.NearestLaws.{kinds_of, of_name, first_named, ancestors_step, kinds_step, line_none, or_none}
-use Rattle.type_taxonomy.proofs.RowLaws.{find_passes}
+use Rattle.type_taxonomy.proofs.NearestLaws.{kinds_of, of_name, first_named, kinds_step, or_none}
 
 -- ---- a search that finds something
 
 found_at : {A : Type 0} (p : A → Bool) (xs : List A) (o : Option A) → find p xs ≡ o → is_some o ≡ true → (k : ℕ) × (x : A) × (slice_get xs k ≡ Some x) × (p x ≡ true)
 found_at p xs None is some = cc
-found_at p xs (Some x) is some = (position_or_len p xs, x, sym (find_at p xs) ∙ is, find_passes p xs x is)
+found_at p xs (Some x) is some = let found = find_at p xs x is in (found.0, x, found.1, found.2)
 
 -- what is found stands at a place
 pub some_found : {A : Type 0} (p : A → Bool) (xs : List A) → is_some (find p xs) ≡ true → (k : ℕ) × (x : A) × (slice_get xs k ≡ Some x) × (p x ≡ true)
@@ -117,7 +116,7 @@ module _ {D E : Type 0} (declared : TypeDecl → List D) (name_of : D → List �
     steady t d name is_type some =
         let found = some_found (λ e. same_text (name_of e) name) (declared d) some in
         let equal : name_of found.1 ≡ name = text_of_same (name_of found.1) name (sym found.3) in
-        ap (λ l. nearest_has name (kinds_of types l)) (sym (ancestors_step types t d forest is_type))
+        ap (λ l. nearest_has name (kinds_of types l)) (sym (ancestors_of_parent types forest.no_cycle t d is_type))
         ∙ ap (λ n. nearest_has n (kinds_of types (ancestors types t))) (sym equal) ∙ narrow t found.0 d found.1 is_type found.2
 
     stays_parent : (parent : Option ℕ) (name : List ℕ) → ((p : ℕ) → parent ≡ Some p → StaysIn name (kinds_of types (line types p)))
@@ -132,19 +131,16 @@ module _ {D E : Type 0} (declared : TypeDecl → List D) (name_of : D → List �
         subst (StaysIn name) (sym (kinds_step types t d forest is_type))
         (λ some. (one t d name is_type some, steady t d name is_type some), stays_parent d.parent name (λ p is_parent. each p d refl is_parent))
 
-    stays_within : (n t : ℕ) (name : List ℕ) → length (line types t) ≤ n → StaysIn name (kinds_of types (line types t))
-    stays_within zero t name short =
-        stays_at t name (slice_get types t) refl
-        (λ p d is_type is_parent. absurd (omega (arith, length_line_parent types t p d is_type (forest.ends t (slice_get_within types t d is_type)) is_parent)))
-    stays_within (suc n) t name short =
-        stays_at t name (slice_get types t) refl
-        (λ p d is_type is_parent. stays_within n p name (omega (arith, length_line_parent types t p d is_type (forest.ends t (slice_get_within types t d is_type)) is_parent)))
+    stays : (name : List ℕ) (t : ℕ) → StaysIn name (kinds_of types (line types t))
+    stays name =
+        along_lines types forest.no_cycle (λ t. StaysIn name (kinds_of types (line types t)))
+        (λ t each. stays_at t name (slice_get types t) refl (λ p d is_type is_parent. each p (record { decl = d; stands = is_type; parent = is_parent })))
 
     -- no ancestor declares the name of a type's declaration in the other sort
     pub none_above : (t k : ℕ) (d : TypeDecl) (x : D) → slice_get types t ≡ Some d → slice_get (declared d) k ≡ Some x
         → first_named other other_name (name_of x) (kinds_of types (ancestors types t)) ≡ None
     none_above t k d x is_type has =
-        let stays : StaysIn (name_of x) (kinds_of types (ancestors types t)) =
-        subst (λ l. StaysIn (name_of x) (kinds_of types l)) (sym (ancestors_step types t d forest is_type))
-        (stays_parent d.parent (name_of x) (λ p is_parent. stays_within (length (line types p)) p (name_of x) (omega arith))) in
-        none_of_other (name_of x) (kinds_of types (ancestors types t)) stays (narrow t k d x is_type has)
+        let above : StaysIn (name_of x) (kinds_of types (ancestors types t)) =
+        subst (λ l. StaysIn (name_of x) (kinds_of types l)) (sym (ancestors_of_parent types forest.no_cycle t d is_type))
+        (stays_parent d.parent (name_of x) (λ p is_parent. stays (name_of x) p)) in
+        none_of_other (name_of x) (kinds_of types (ancestors types t)) above (narrow t k d x is_type has)

@@ -13,7 +13,7 @@ use Rattle.type_taxonomy.specs.declared.above.Above.{Above}
 use Rattle.type_taxonomy.specs.steps.ByName.{found}
 use Rattle.type_taxonomy.specs.steps.Above.{found_along, passes_nearest, IsAbove, attribute_passes, port_passes}
 use Rattle.type_taxonomy.specs.steps.Built.{attribute_narrows_at, port_narrows_at, NarrowsAll}
-use Rattle.type_taxonomy.specs.Faults.{Has}
+use Rattle.base_laws.specs.Places.{IsAt}
 use Rattle.type_taxonomy.specs.steps.Firsts.{IsFirstFailing}
 use Rattle.type_taxonomy.specs.steps.NearestTests.{lies_within, attribute_narrows_nearest, port_narrows_nearest}
 use Rattle.type_taxonomy.proofs.AboveLaws.{nearer}
@@ -65,18 +65,18 @@ above_told types kinds lines t line members above are within read same same_line
 
 -- ---- one type more
 
-narrows_at : (m : Model) (types : List TypeDecl) (t u : ℕ) (d e : TypeDecl) → ((v : ℕ) (f : TypeDecl) → v < t → Has types v f → NarrowsAll m v f) → Has types t d → NarrowsAll m t d
-    → u < t + 1 → Has types u e → (u ≡ t) ⊎ (u ≡ t → ⊥) → NarrowsAll m u e
+narrows_at : (m : Model) (types : List TypeDecl) (t u : ℕ) (d e : TypeDecl) → ((v : ℕ) (f : TypeDecl) → v < t → IsAt types v f → NarrowsAll m v f) → IsAt types t d → NarrowsAll m t d
+    → u < t + 1 → IsAt types u e → (u ≡ t) ⊎ (u ≡ t → ⊥) → NarrowsAll m u e
 narrows_at m types t u d e before is narrows below here (inl same) =
     let there : slice_get types t ≡ Some e = ap (slice_get types) (sym same) ∙ here in
     let equal : d ≡ e = cc in
     subst (λ v. NarrowsAll m v e) (sym same) (subst (NarrowsAll m t) equal narrows)
 narrows_at m types t u d e before is narrows below here (inr other) = before u e (omega arith) here
 
-pub narrows_more : (m : Model) (types : List TypeDecl) (t : ℕ) (d : TypeDecl) → ((v : ℕ) (f : TypeDecl) → v < t → Has types v f → NarrowsAll m v f) → Has types t d
-    → NarrowsAll m t d → (u : ℕ) (e : TypeDecl) → u < t + 1 → Has types u e → NarrowsAll m u e
+pub narrows_more : (m : Model) (types : List TypeDecl) (t : ℕ) (d : TypeDecl) → ((v : ℕ) (f : TypeDecl) → v < t → IsAt types v f → NarrowsAll m v f) → IsAt types t d
+    → NarrowsAll m t d → (u : ℕ) (e : TypeDecl) → u < t + 1 → IsAt types u e → NarrowsAll m u e
 narrows_more m types t d before is narrows u e below here = narrows_at m types t u d e before is narrows below here (cases_eq u t)
 
-pub narrows_each : (m : Model) (types : List TypeDecl) (t : ℕ) → ((v : ℕ) (f : TypeDecl) → v < t → Has types v f → NarrowsAll m v f) → length types ≤ t
-    → (u : ℕ) (e : TypeDecl) → Has types u e → NarrowsAll m u e
+pub narrows_each : (m : Model) (types : List TypeDecl) (t : ℕ) → ((v : ℕ) (f : TypeDecl) → v < t → IsAt types v f → NarrowsAll m v f) → length types ≤ t
+    → (u : ℕ) (e : TypeDecl) → IsAt types u e → NarrowsAll m u e
 narrows_each m types t before all u e here = before u e (omega (arith, slice_get_within types u e here)) here

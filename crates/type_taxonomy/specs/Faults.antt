@@ -1,7 +1,8 @@
 -- The faults of a taxonomy, and the first of them.
-use Rattle.std.specs.Prelude.{◌≡◌, ℕ, ◌<◌, true, false, IsTrue, IsFalse, List, [], ◌∷◌, length, slice_get, Some, if◌then◌else◌}
+use Rattle.std.specs.Prelude.{◌≡◌, ℕ, ◌<◌, true, false, IsTrue, IsFalse, List, [], ◌∷◌, length, if◌then◌else◌}
 use Rattle.std.specs.Ordering.{nat_cmp, is_lt}
 use Rattle.std.specs.Cmp.Lexicographic.{slice_cmp}
+use Rattle.base_laws.specs.Places.{IsAt}
 use Rattle.prod_model.specs.declared.model.Model.{Model}
 use Rattle.prod_model.specs.declared.model.TypeDecl.{TypeDecl}
 use Rattle.prod_model.specs.declared.model.AttrDecl.{AttrDecl}
@@ -13,19 +14,15 @@ use Rattle.type_taxonomy.specs.declared.fault.TaxFault.{TaxFault}
 use Rattle.type_taxonomy.specs.declared.fault.TaxFault.TheVariants.{UnknownParent, Cycle, Widening, Crowded, Memory}
 use Rattle.type_taxonomy.specs.Nearest.{AttributeNarrows, PortNarrows}
 
--- that place of the list has this
-abbrev pub Has : {A : Type 0} → List A → ℕ → A → Type 0
-Has xs k x = slice_get xs k ≡ Some x
-
 -- The model has this fault. Want of memory is none.
 pub data HasTaxFault (m : Model) (f : TaxFault) : Type 0 where
-  unknown_parent : (t : ℕ) (d : TypeDecl) → f ≡ UnknownParent t → Has m.types t d
+  unknown_parent : (t : ℕ) (d : TypeDecl) → f ≡ UnknownParent t → IsAt m.types t d
       → IsFalse (knows_types m d) → HasTaxFault m f
   cycle : (t : ℕ) → f ≡ Cycle t → t < length m.types → IsTrue (is_in_circle m t) → HasTaxFault m f
   wider_attribute : (t k : ℕ) (d : TypeDecl) (a : AttrDecl) → f ≡ Widening t false k
-      → Has m.types t d → Has d.attributes k a → ¬ AttributeNarrows m t a → HasTaxFault m f
+      → IsAt m.types t d → IsAt d.attributes k a → ¬ AttributeNarrows m t a → HasTaxFault m f
   wider_port : (t k : ℕ) (d : TypeDecl) (p : PortDecl) → f ≡ Widening t true k
-      → Has m.types t d → Has d.ports k p → ¬ PortNarrows m t p → HasTaxFault m f
+      → IsAt m.types t d → IsAt d.ports k p → ¬ PortNarrows m t p → HasTaxFault m f
   crowded : (t : ℕ) → f ≡ Crowded t → t < length m.types → IsFalse (has_room_at m t)
       → HasTaxFault m f
 

@@ -33,7 +33,8 @@ fn names_along<'a, D: Declaration>(
     types: &'a [TypeDecl],
     line: &[u32],
 ) -> Result<IndexMap<&'a [u8], Found<'a, D>>, AllocError>
-    ensures { IfOk result (λ names. (q : List ℕ) → found names q ≡ found_along D.declared D.name_of types.now line.now q) }
+    ensures { IfOk result (λ names. (q : List ℕ) → found names q
+        ≡ found_along D.declared D.name_of types.now line.now q) }
 {
     let mut names = IndexMap::new(alloc);
     let mut left = line.len();
@@ -48,13 +49,15 @@ fn names_along<'a, D: Declaration>(
     Ok(names)
 }
 
-/// The nearest declarations above a type with this line. It takes one step a declaration of an ancestor.
+/// The nearest declarations above a type with this line. It takes one step a declaration of an
+/// ancestor.
 pub(crate) fn names_above<'a, D: Declaration>(
     alloc: Global,
     types: &'a [TypeDecl],
     line: &[u32],
 ) -> Result<IndexMap<&'a [u8], Found<'a, D>>, AllocError>
-    ensures { IfOk result (λ names. (q : List ℕ) → found names q ≡ found_along D.declared D.name_of types.now (drop 1 line.now) q) }
+    ensures { IfOk result (λ names. (q : List ℕ) → found names q
+        ≡ found_along D.declared D.name_of types.now (drop 1 line.now) q) }
 {
     match line.split_first() {
         None => names_along(alloc, types, line),

@@ -23,7 +23,8 @@ fn put<'a, D: Declaration>(
     declared: &'a D,
 ) -> Result<(), AllocError>
     ensures { OnOk result ((q : List ℕ) → found names.new q
-        ≡ cond (same_text (D.name_of declared.now) q) (Some (height, declared.now)) (found names.old q)) }
+        ≡ cond (same_text (D.name_of declared.now) q) (Some (height, declared.now))
+        (found names.old q)) }
 {
     let name = declared.name().bytes();
     let Ok(_) = names.insert(name, Found { height, declared }) else {
@@ -32,13 +33,15 @@ fn put<'a, D: Declaration>(
     Ok(())
 }
 
-/// Puts declarations under their names, from the last, so that the first of a name stays. It takes one step each.
+/// Puts declarations under their names, from the last, so that the first of a name stays. It takes
+/// one step each.
 pub(crate) fn put_all<'a, D: Declaration>(
     names: &mut IndexMap<&'a [u8], Found<'a, D>>,
     height: usize,
     declared: &'a [D],
 ) -> Result<(), AllocError>
-    ensures { OnOk result ((q : List ℕ) → found names.new q ≡ option_or (found_at D.name_of height declared.now q) (found names.old q)) }
+    ensures { OnOk result ((q : List ℕ) → found names.new q
+        ≡ option_or (found_at D.name_of height declared.now q) (found names.old q)) }
 {
     let mut left = declared.len();
     while left > 0 {
@@ -53,7 +56,8 @@ pub(crate) fn names_of<'a, D: Declaration>(
     alloc: Global,
     declared: &'a [D],
 ) -> Result<IndexMap<&'a [u8], Found<'a, D>>, AllocError>
-    ensures { IfOk result (λ names. (q : List ℕ) → found names q ≡ found_at D.name_of 1 declared.now q) }
+    ensures { IfOk result (λ names. (q : List ℕ) → found names q
+        ≡ found_at D.name_of 1 declared.now q) }
 {
     let mut names = IndexMap::new(alloc);
     put_all(&mut names, 1, declared)?;
@@ -65,7 +69,8 @@ pub(crate) fn look_up<'m, 'a, D>(
     names: &'m IndexMap<&'a [u8], Found<'a, D>>,
     name: &Name,
 ) -> Option<&'m Found<'a, D>>
-    ensures { option_map (λ f. (f.now.height, f.now.declared.now)) result ≡ found names.now name.now }
+    ensures { option_map (λ f. (f.now.height, f.now.declared.now)) result
+        ≡ found names.now name.now }
 {
     names.get(name.bytes())
 }

@@ -11,8 +11,8 @@ pub(crate) trait Declaration {
     ghost name_of: { Self → List ℕ };
 
     /// Those of a type, in file order.
-    fn declared(kind: &TypeDecl) -> &[Self]
-        ensures { result.now ≡ declared kind.now };
+    fn declared(decl: &TypeDecl) -> &[Self]
+        ensures { result.now ≡ declared decl.now };
 
     fn name(&self) -> &Name
         ensures { result.now ≡ name_of self.now };
@@ -23,8 +23,8 @@ impl Declaration for AttrDecl {
 
     ghost name_of = { λ a. a.name };
 
-    fn declared(kind: &TypeDecl) -> &[AttrDecl] {
-        kind.attributes.as_slice()
+    fn declared(decl: &TypeDecl) -> &[AttrDecl] {
+        decl.attributes.as_slice()
     }
 
     fn name(&self) -> &Name {
@@ -37,8 +37,8 @@ impl Declaration for PortDecl {
 
     ghost name_of = { λ p. p.name };
 
-    fn declared(kind: &TypeDecl) -> &[PortDecl] {
-        kind.ports.as_slice()
+    fn declared(decl: &TypeDecl) -> &[PortDecl] {
+        decl.ports.as_slice()
     }
 
     fn name(&self) -> &Name {

@@ -8,10 +8,13 @@ ghost use Rattle.type_taxonomy.specs.steps.Firsts.{IsFirstFailing};
 
 use prod_model::{Model, PortDecl, TypeDecl};
 
-/// The first type whose parent, or the target of one of its ports, is no type's number. It takes one step a declaration.
+/// The first type whose parent, or the target of one of its ports, is no type's number. It takes
+/// one step a declaration.
 pub(crate) fn first_unknown(model: &Model) -> Option<u32>
     requires { length model.now.types < 2 ^ 32 }
-    ensures { IsFirstFailing (λ t. option_map_or (knows_types model.now) (slice_get model.now.types t) true) (length model.now.types) result }
+    ensures { IsFirstFailing
+        (λ t. option_map_or (knows_types model.now) (slice_get model.now.types t) true)
+        (length model.now.types) result }
 {
     let types = model.types.as_slice();
     for t in 0..types.len() {
@@ -22,17 +25,11 @@ pub(crate) fn first_unknown(model: &Model) -> Option<u32>
     None
 }
 
-fn is_type(model: &Model, t: u32) -> bool
-    ensures { result ≡ is_type model.now t }
+fn knows_parent(model: &Model, decl: &TypeDecl) -> bool
+    ensures { result ≡ option_map_or (is_type model.now) decl.now.parent true }
 {
-    (t as usize) < model.types.len()
-}
-
-fn knows_parent(model: &Model, kind: &TypeDecl) -> bool
-    ensures { result ≡ option_map_or (is_type model.now) kind.now.parent true }
-{
-    match kind.parent {
-        Some(parent) => is_type(model, parent),
+    match decl.parent {
+        Some(parent) => model.is_type(parent),
         None => true,
     }
 }
@@ -40,11 +37,11 @@ fn knows_parent(model: &Model, kind: &TypeDecl) -> bool
 fn knows_targets(model: &Model, ports: &[PortDecl]) -> bool
     ensures { result ≡ list_all (λ p. is_type model.now p.target) ports.now }
 {
-    ports.iter().all(|p| is_type(model, p.target))
+    ports.iter().all(|p| model.is_type(p.target))
 }
 
-fn knows_types(model: &Model, kind: &TypeDecl) -> bool
-    ensures { result ≡ knows_types model.now kind.now }
+fn knows_types(model: &Model, decl: &TypeDecl) -> bool
+    ensures { result ≡ knows_types model.now decl.now }
 {
-    knows_parent(model, kind) && knows_targets(model, kind.ports.as_slice())
+    knows_parent(model, decl) && knows_targets(model, decl.ports.as_slice())
 }

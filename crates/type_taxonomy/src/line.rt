@@ -7,7 +7,8 @@ ghost use Rattle.type_taxonomy.specs.steps.Entries.{AreLines};
 use prod_model::{Items, TypeDecl};
 use std::alloc::{AllocError, Global};
 
-/// The lines of all types, one member more than there are types at most. It takes their number times the greatest depth.
+/// The lines of all types, one member more than there are types at most. It takes their number
+/// times the greatest depth.
 pub(crate) fn all_lines(alloc: Global, types: &[TypeDecl]) -> Result<Items<Items<u32>>, AllocError>
     requires { length types.now < 1000 }
     ensures { IfOk result (AreLines types.now) }

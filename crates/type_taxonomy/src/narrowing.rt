@@ -1,5 +1,5 @@
 //! Whether a declaration narrows the nearest one of its name.
-ghost use Rattle.std.specs.Prelude.{◌≡◌, nat_lt, nat_le, ◌&&◌, false};
+ghost use Rattle.std.specs.Prelude.{◌≡◌, nat_lt, false};
 ghost use Rattle.std.specs.Option.{option_map_or};
 ghost use Rattle.std.specs.List.{list_any, list_all};
 ghost use Rattle.prod_model.specs.Forest.{is_a};
@@ -8,6 +8,7 @@ ghost use Rattle.prod_model.specs.Valid.{narrows_domain, same_kind};
 ghost use Rattle.type_taxonomy.specs.steps.Above.{attribute_passes, port_passes};
 ghost use Rattle.type_taxonomy.specs.steps.Built.{IsBuilt};
 ghost use Rattle.type_taxonomy.specs.steps.ByName.{found};
+ghost use Rattle.type_taxonomy.specs.steps.NearestTests.{lies_within};
 
 use crate::above::Above;
 use crate::by_name::{Found, is_free, look_up};
@@ -22,8 +23,8 @@ fn has_word(words: &[Name], word: &Name) -> bool
     words.iter().any(|w| word.bytes() == w.bytes())
 }
 
-/// Whether all of some words are among the words. Each is compared with one after another, which in a formed model
-/// takes 64 times 64 comparisons at most.
+/// Whether all of some words are among the words. Each is compared with one after another, which in
+/// a formed model takes 64 times 64 comparisons at most.
 fn has_words(words: &[Name], some: &[Name]) -> bool
     ensures { result ≡ list_all (λ w. list_any (same_text w) words.now) some.now }
 {
@@ -64,11 +65,11 @@ fn is_a(forest: &Forest, t: u32, u: u32) -> bool
     }
 }
 
-/// Whether the port is of the kind of the wide one, with its pair within that one's and its target under that one's.
+/// Whether the port is of the kind of the wide one, with its pair within that one's and its target
+/// under that one's.
 fn narrows_port(forest: &Forest, port: &PortDecl, wide: &PortDecl) -> bool
     requires { IsBuilt forest.now }
-    ensures { result ≡ (same_kind port.now.kind wide.now.kind && nat_le wide.now.low port.now.low && nat_le port.now.high wide.now.high
-        && is_a forest.now.model.now port.now.target wide.now.target) }
+    ensures { result ≡ lies_within forest.now.model.now port.now wide.now }
 {
     same_kind(port.kind, wide.kind)
         && wide.low <= port.low
@@ -86,8 +87,8 @@ fn is_nearer<D>(names: &IndexMap<&[u8], Found<D>>, name: &Name, height: usize) -
     }
 }
 
-/// Whether the nearest declaration of the attribute's name, if there is one, is an attribute, whose domain the
-/// attribute's lies within.
+/// Whether the nearest declaration of the attribute's name, if there is one, is an attribute, whose
+/// domain the attribute's lies within.
 #[tactic(auto, unfolding(crate::specs::steps::Above::attribute_passes))]
 pub(crate) fn attribute_narrows(above: &Above, attribute: &AttrDecl) -> bool
     ensures { result ≡ attribute_passes above.now attribute.now }
@@ -102,7 +103,8 @@ pub(crate) fn attribute_narrows(above: &Above, attribute: &AttrDecl) -> bool
     }
 }
 
-/// Whether the nearest declaration of the port's name, if there is one, is a port that this one narrows.
+/// Whether the nearest declaration of the port's name, if there is one, is a port that this one
+/// narrows.
 #[tactic(auto, unfolding(crate::specs::steps::Above::port_passes))]
 pub(crate) fn port_narrows(forest: &Forest, above: &Above, port: &PortDecl) -> bool
     requires { IsBuilt forest.now }

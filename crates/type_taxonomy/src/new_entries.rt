@@ -10,8 +10,8 @@ use crate::entry::Entry;
 use prod_model::{Items, TypeDecl};
 use std::alloc::{AllocError, Global};
 
-/// What is new in each type, numbered in file order. For each type the declarations of its ancestors are gone over
-/// once, and each of its own takes a look-up of its name.
+/// What is new in each type, numbered in file order. For each type the declarations of its
+/// ancestors are gone over once, and each of its own takes a look-up of its name.
 pub(crate) fn all_new<'a, D: Declaration>(
     alloc: Global,
     types: &'a [TypeDecl],
@@ -35,17 +35,19 @@ pub(crate) fn all_new<'a, D: Declaration>(
 fn new_in<'a, D: Declaration>(
     alloc: Global,
     types: &[TypeDecl],
-    kind: &'a TypeDecl,
+    decl: &'a TypeDecl,
     line: &[u32],
     first_id: u32,
 ) -> Result<Items<Entry<'a, D>>, AllocError>
-    requires { first_id + length (D.declared kind.now) < 2 ^ 32 }
+    requires { first_id + length (D.declared decl.now) < 2 ^ 32 }
     ensures { IfOk result (λ row. map (named D.name_of) row
-        ≡ numbered D.declared D.name_of first_id (filter (is_new_among D.declared D.name_of types.now (drop 1 line.now)) (D.declared kind.now))) }
+        ≡ numbered D.declared D.name_of first_id
+        (filter (is_new_among D.declared D.name_of types.now (drop 1 line.now))
+        (D.declared decl.now))) }
 {
     let above = names_above::<D>(alloc, types, line)?;
     let mut row = Items::new(alloc);
-    for declared in D::declared(kind) {
+    for declared in D::declared(decl) {
         if is_free(&above, declared.name()) {
             let id = first_id + row.len() as u32;
             row.push(Entry { id, declared })?;

@@ -5,16 +5,14 @@ ghost use Rattle.type_taxonomy.specs.steps.Built.{IsBuilt};
 ghost use Rattle.type_taxonomy.specs.steps.Firsts.{IsFirstFailing};
 
 use crate::forest::Forest;
-
-const MOST_ATTRIBUTES: usize = 32;
-
-const MOST_PORTS: usize = 16;
+use prod_model::limits::{MOST_ATTRIBUTES_OF_TYPE, MOST_PORTS_OF_TYPE};
 
 /// The first type with too many attributes or ports, inherited ones included.
 pub(crate) fn first_crowded(forest: &Forest) -> Option<u32>
     requires built { IsBuilt forest.now }
     requires few { length forest.now.model.now.types < 2 ^ 32 }
-    ensures { IsFirstFailing (has_room_at forest.now.model.now) (length forest.now.model.now.types) result }
+    ensures { IsFirstFailing (has_room_at forest.now.model.now) (length forest.now.model.now.types)
+        result }
 {
     for t in 0..forest.model.types.len() {
         if !has_room(forest, t as u32) {
@@ -31,5 +29,5 @@ fn has_room(forest: &Forest, t: u32) -> bool
 {
     let attributes = forest.attributes.as_slice()[t as usize].len();
     let ports = forest.ports.as_slice()[t as usize].len();
-    attributes <= MOST_ATTRIBUTES && ports <= MOST_PORTS
+    attributes <= MOST_ATTRIBUTES_OF_TYPE && ports <= MOST_PORTS_OF_TYPE
 }

@@ -21,7 +21,8 @@ fn kept<'a, D: Declaration>(
 ) -> Entry<'a, D>
     ensures id { result.id ≡ inherited.now.id }
     ensures declared { result.declared.now
-        ≡ option_map_or (λ f. f.1) (found declared.now (D.name_of inherited.now.declared.now)) inherited.now.declared.now }
+        ≡ option_map_or (λ f. f.1) (found declared.now (D.name_of inherited.now.declared.now))
+        inherited.now.declared.now }
 {
     match look_up(declared, inherited.declared.name()) {
         Some(found) => Entry {
@@ -35,17 +36,18 @@ fn kept<'a, D: Declaration>(
     }
 }
 
-/// What is inherited, narrowed. The declarations of the type are gone over once, and each entry takes a look-up of its
-/// name.
+/// What is inherited, narrowed. The declarations of the type are gone over once, and each entry
+/// takes a look-up of its name.
 fn narrowed<'a, D: Declaration>(
     alloc: Global,
-    kind: &'a TypeDecl,
+    decl: &'a TypeDecl,
     inherited: &[Entry<'a, D>],
 ) -> Result<Items<Entry<'a, D>>, AllocError>
     ensures { IfOk result (λ row. map (named D.name_of) row
-        ≡ narrowed_by D.declared D.name_of (D.declared kind.now) (map (named D.name_of) inherited.now)) }
+        ≡ narrowed_by D.declared D.name_of (D.declared decl.now)
+        (map (named D.name_of) inherited.now)) }
 {
-    let declared = names_of(alloc, D::declared(kind))?;
+    let declared = names_of(alloc, D::declared(decl))?;
     let mut row = Items::new(alloc);
     for e in inherited {
         row.push(kept(&declared, e))?;
@@ -56,18 +58,19 @@ fn narrowed<'a, D: Declaration>(
 /// What a type has: the row of its parent, narrowed, and then what is new.
 fn row_of<'a, D: Declaration>(
     alloc: Global,
-    kind: &'a TypeDecl,
+    decl: &'a TypeDecl,
     rows: &[Items<Entry<'a, D>>],
     new: &[Entry<'a, D>],
 ) -> Result<Items<Entry<'a, D>>, AllocError>
-    requires { IfSome kind.now.parent (λ p. p < length rows.now) }
+    requires { IfSome decl.now.parent (λ p. p < length rows.now) }
     ensures { IfOk result (λ row. map (named D.name_of) row
-        ≡ narrowed_by D.declared D.name_of (D.declared kind.now)
-        (option_map_or (λ p. map (named D.name_of) (slice_index_or rows.now p [])) kind.now.parent [])
+        ≡ narrowed_by D.declared D.name_of (D.declared decl.now)
+        (option_map_or (λ p. map (named D.name_of) (slice_index_or rows.now p []))
+        decl.now.parent [])
         ++ map (named D.name_of) new.now) }
 {
-    let mut row = match kind.parent {
-        Some(parent) => narrowed(alloc, kind, rows[parent as usize].as_slice())?,
+    let mut row = match decl.parent {
+        Some(parent) => narrowed(alloc, decl, rows[parent as usize].as_slice())?,
         None => Items::new(alloc),
     };
     push_all(&mut row, new)?;
@@ -86,7 +89,8 @@ fn push_all<'a, D>(row: &mut Items<Entry<'a, D>>, new: &[Entry<'a, D>]) -> Resul
     Ok(())
 }
 
-/// Fills the rows of the types whose lines have so many members, where those of shorter lines are filled.
+/// Fills the rows of the types whose lines have so many members, where those of shorter lines are
+/// filled.
 fn fill<'a, D: Declaration>(
     alloc: Global,
     types: &'a [TypeDecl],
@@ -98,8 +102,10 @@ fn fill<'a, D: Declaration>(
     requires forest { IsForest types.now }
     requires lines { AreLines types.now lines.now }
     requires new { AreNew D.declared D.name_of types.now new.now }
-    requires shorter { HasRows D.declared D.name_of types.now (λ t. length (line types.now t) < members) rows.old }
-    ensures { OnOk result (HasRows D.declared D.name_of types.now (λ t. length (line types.now t) < members + 1) rows.new) }
+    requires shorter { HasRows D.declared D.name_of types.now
+        (λ t. length (line types.now t) < members) rows.old }
+    ensures { OnOk result (HasRows D.declared D.name_of types.now
+        (λ t. length (line types.now t) < members + 1) rows.new) }
 {
     for t in 0..types.len() {
         if lines[t].len() == members {
@@ -121,9 +127,10 @@ fn empty_rows<'a, D>(alloc: Global, number: usize) -> Result<Items<Items<Entry<'
     Ok(rows)
 }
 
-/// What each type has. A type comes after its parent, whose line is shorter by one, so each row is made once: it takes
-/// one step for each declaration of its type and a look-up for each entry that is inherited. To find the types of each
-/// length of a line, all are gone over as often as the forest is deep.
+/// What each type has. A type comes after its parent, whose line is shorter by one, so each row is
+/// made once: it takes one step for each declaration of its type and a look-up for each entry that
+/// is inherited. To find the types of each length of a line, all are gone over as often as the
+/// forest is deep.
 pub(crate) fn all_rows<'a, D: Declaration>(
     alloc: Global,
     types: &'a [TypeDecl],

@@ -5,37 +5,16 @@ ghost use Rattle.type_taxonomy.specs.steps.Built.{IsBuilt};
 
 use crate::entry::Entry;
 use crate::forest::Forest;
-use prod_model::{AttrAt, AttrDecl, Domain, Items, Name, PortAt, PortDecl, Tables};
+use prod_model::{AttrAt, AttrDecl, Items, PortAt, PortDecl, Tables};
 use std::alloc::{AllocError, Global};
 
-fn copy_words(alloc: Global, words: &[Name]) -> Result<Items<Name>, AllocError>
-    ensures { IfOk result (λ copies. copies ≡ words.now) }
-{
-    let mut copies = Items::new(alloc);
-    for word in words {
-        copies.push(word.copy(alloc)?)?;
-    }
-    Ok(copies)
-}
-
-fn copy_domain(alloc: Global, domain: &Domain) -> Result<Domain, AllocError>
-    ensures { IfOk result (λ copy. copy ≡ domain.now) }
-{
-    match domain {
-        Domain::Range { low, high } => Ok(Domain::Range {
-            low: *low,
-            high: *high,
-        }),
-        Domain::Words(words) => Ok(Domain::Words(copy_words(alloc, words.as_slice())?)),
-    }
-}
-
 fn attributes_of(alloc: Global, row: &[Entry<AttrDecl>]) -> Result<Items<AttrAt>, AllocError>
-    ensures { IfOk result (λ attributes. attributes ≡ map (λ e. made_attribute e.id e.declared.now) row.now) }
+    ensures { IfOk result (λ attributes. attributes
+        ≡ map (λ e. made_attribute e.id e.declared.now) row.now) }
 {
     let mut attributes = Items::new(alloc);
     for e in row {
-        let domain = copy_domain(alloc, &e.declared.domain)?;
+        let domain = e.declared.domain.copy(alloc)?;
         attributes.push(AttrAt { id: e.id, domain })?;
     }
     Ok(attributes)
@@ -61,7 +40,8 @@ fn all_attributes(
     alloc: Global,
     rows: &[Items<Entry<AttrDecl>>],
 ) -> Result<Items<Items<AttrAt>>, AllocError>
-    ensures { IfOk result (λ table. table ≡ map (map (λ e. made_attribute e.id e.declared.now)) rows.now) }
+    ensures { IfOk result (λ table. table
+        ≡ map (map (λ e. made_attribute e.id e.declared.now)) rows.now) }
 {
     let mut table = Items::new(alloc);
     for row in rows {
@@ -74,7 +54,8 @@ fn all_ports(
     alloc: Global,
     rows: &[Items<Entry<PortDecl>>],
 ) -> Result<Items<Items<PortAt>>, AllocError>
-    ensures { IfOk result (λ table. table ≡ map (map (λ e. made_port e.id e.declared.now)) rows.now) }
+    ensures { IfOk result (λ table. table
+        ≡ map (map (λ e. made_port e.id e.declared.now)) rows.now) }
 {
     let mut table = Items::new(alloc);
     for row in rows {

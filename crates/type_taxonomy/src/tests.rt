@@ -1,5 +1,5 @@
-//! Small forests worked out by hand. They are made as the tests run, so they go through `build_few`, whose
-//! conditions are numbers that a test can find out.
+//! Small forests worked out by hand. They are made as the tests run, so they go through
+//! `build_few`, whose conditions are numbers that a test can find out.
 mod answers;
 mod literals;
 
@@ -197,8 +197,8 @@ fn refuses_wider_words(rt: HostRuntime) -> Result<(), Fail> {
     Ok(())
 }
 
-/// Where a type declares a name in the other sort than its parent does, and its child narrows it, it is the type that
-/// widens, and not the child, which comes first in the file.
+/// Where a type declares a name in the other sort than its parent does, and its child narrows it,
+/// it is the type that widens, and not the child, which comes first in the file.
 #[test]
 fn compares_with_the_nearest(rt: HostRuntime) -> Result<(), Fail> {
     let alloc = rt.alloc();
@@ -240,10 +240,10 @@ fn compares_with_the_nearest(rt: HostRuntime) -> Result<(), Fail> {
 fn refuses_wider_ports(rt: HostRuntime) -> Result<(), Fail> {
     let alloc = rt.alloc();
     let wide = "Widening { kind: 3, port: true, place: 0 }";
-    let narrowed =
-        "( )( )( )( )( )( 0:part 1 1..3 )( 0:part 1 1..3 )( 0:part 1 1..3 )( 0:part 1 2..2 )( 0:part 1 1..3 )";
-    let aimed =
-        "( )( )( )( )( )( 0:part 1 1..3 )( 0:part 1 1..3 )( 0:part 1 1..3 )( 0:part 4 1..3 )( 0:part 1 1..3 )";
+    let narrowed = "( )( )( )( )( )( 0:part 1 1..3 )( 0:part 1 1..3 )( 0:part 1 1..3 )\
+        ( 0:part 1 2..2 )( 0:part 1 1..3 )";
+    let aimed = "( )( )( )( )( )( 0:part 1 1..3 )( 0:part 1 1..3 )( 0:part 1 1..3 )\
+        ( 0:part 4 1..3 )( 0:part 1 1..3 )";
     for (kind, target, low, high, want) in [
         (PortKind::Shared, 1, 1, 3, wide),
         (PortKind::Part, 1, 0, 3, wide),
@@ -330,7 +330,8 @@ fn counts_inherited_entries(rt: HostRuntime) -> Result<(), Fail> {
     Ok(())
 }
 
-/// A chain of as many types as a model may have, with as many declarations: each narrows what the one before has.
+/// A chain of as many types as a model may have, with as many declarations: each narrows what the
+/// one before has.
 #[test]
 fn builds_a_long_chain(rt: HostRuntime) -> Result<(), Fail> {
     let alloc = rt.alloc();

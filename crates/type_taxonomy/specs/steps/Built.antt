@@ -7,7 +7,7 @@ use Rattle.type_taxonomy.specs.declared.forest.Forest.{Forest}
 use Rattle.type_taxonomy.specs.declared.fault.TaxFault.{TaxFault}
 use Rattle.type_taxonomy.specs.declared.fault.TaxFault.TheVariants.{Widening}
 use Rattle.type_taxonomy.specs.steps.Entries.{AreLines, AreRows}
-use Rattle.type_taxonomy.specs.Faults.{Has}
+use Rattle.base_laws.specs.Places.{IsAt}
 use Rattle.type_taxonomy.specs.steps.Firsts.{IsFirstFailing}
 use Rattle.type_taxonomy.specs.steps.NearestTests.{attribute_narrows_nearest, port_narrows_nearest}
 use Rattle.type_taxonomy.specs.steps.TypeForest.{IsForest}
@@ -48,6 +48,6 @@ pub data IsWideningOf (m : Model) (t : ℕ) (d : TypeDecl) (f : TaxFault) : Type
 pub record IsFirstWidening (m : Model) (f : TaxFault) : Type 0 where
   pub kind : ℕ
   pub declared : TypeDecl
-  pub is : Has m.types kind declared
+  pub is : IsAt m.types kind declared
   pub widens : IsWideningOf m kind declared f
-  pub before : (u : ℕ) (e : TypeDecl) → u < kind → Has m.types u e → NarrowsAll m u e
+  pub before : (u : ℕ) (e : TypeDecl) → u < kind → IsAt m.types u e → NarrowsAll m u e

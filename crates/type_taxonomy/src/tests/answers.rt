@@ -1,7 +1,7 @@
 //! What is built of a model, as a text.
 ghost use Rattle.std.specs.Prelude.{◌≡◌, length, sum_by, IfSome};
 
-use super::literals::{Kind, declaration, model_of};
+use super::literals::{TypeLiteral, declaration, model_of};
 use crate::declaration::Declaration;
 use crate::fault::TaxFault;
 use crate::taxonomy::build_few;
@@ -17,8 +17,8 @@ fn count<D: Declaration>(types: &[TypeDecl]) -> Option<u32>
     ensures { IfSome result (λ n. n ≡ sum_by (λ d. length (D.declared d)) types.now) }
 {
     let mut number = 0u32;
-    for kind in types {
-        number = number.checked_add(u32::try_from(D::declared(kind).len()).ok()?)?;
+    for decl in types {
+        number = number.checked_add(u32::try_from(D::declared(decl).len()).ok()?)?;
     }
     Some(number)
 }
@@ -99,10 +99,10 @@ pub(super) fn answer_text(alloc: Global, model: &Model) -> Result<String, Fail> 
 }
 
 /// The answer at a forest of these types.
-pub(super) fn built(alloc: Global, kinds: &[Kind]) -> Result<String, Fail> {
+pub(super) fn built(alloc: Global, literals: &[TypeLiteral]) -> Result<String, Fail> {
     let mut types = Items::new(alloc);
-    for kind in kinds {
-        types.push(declaration(alloc, kind)?)?;
+    for literal in literals {
+        types.push(declaration(alloc, literal)?)?;
     }
     answer_text(alloc, &model_of(alloc, types))
 }

@@ -14,7 +14,7 @@ pub(super) enum Values<'a> {
 
 /// A type: its parent, its attributes, and its ports with target, low and high.
 #[derive(Drop)]
-pub(super) struct Kind<'a> {
+pub(super) struct TypeLiteral<'a> {
     pub parent: Option<u32>,
     pub attributes: &'a [(&'a [u8], Values<'a>)],
     pub ports: &'a [(&'a [u8], PortKind, u32, u32, u32)],
@@ -43,16 +43,16 @@ pub(super) fn domain(alloc: Global, values: &Values) -> Result<Domain, AllocErro
     }
 }
 
-pub(super) fn declaration(alloc: Global, kind: &Kind) -> Result<TypeDecl, AllocError> {
+pub(super) fn declaration(alloc: Global, literal: &TypeLiteral) -> Result<TypeDecl, AllocError> {
     let mut attributes = Items::new(alloc);
-    for (text, values) in kind.attributes {
+    for (text, values) in literal.attributes {
         attributes.push(AttrDecl {
             name: name(alloc, text)?,
             domain: domain(alloc, values)?,
         })?;
     }
     let mut ports = Items::new(alloc);
-    for (text, kind, target, low, high) in kind.ports {
+    for (text, kind, target, low, high) in literal.ports {
         ports.push(PortDecl {
             name: name(alloc, text)?,
             kind: *kind,
@@ -63,7 +63,7 @@ pub(super) fn declaration(alloc: Global, kind: &Kind) -> Result<TypeDecl, AllocE
     }
     Ok(TypeDecl {
         name: name(alloc, b"Kind")?,
-        parent: kind.parent,
+        parent: literal.parent,
         attributes,
         ports,
     })
@@ -81,16 +81,19 @@ pub(super) fn model_of(alloc: Global, types: Items<TypeDecl>) -> Model
     }
 }
 
-pub(super) fn plain(parent: Option<u32>) -> Kind<'static> {
-    Kind {
+pub(super) fn plain(parent: Option<u32>) -> TypeLiteral<'static> {
+    TypeLiteral {
         parent,
         attributes: &[],
         ports: &[],
     }
 }
 
-pub(super) fn sized<'a>(parent: Option<u32>, attributes: &'a [(&'a [u8], Values<'a>)]) -> Kind<'a> {
-    Kind {
+pub(super) fn sized<'a>(
+    parent: Option<u32>,
+    attributes: &'a [(&'a [u8], Values<'a>)],
+) -> TypeLiteral<'a> {
+    TypeLiteral {
         parent,
         attributes,
         ports: &[],
@@ -100,8 +103,8 @@ pub(super) fn sized<'a>(parent: Option<u32>, attributes: &'a [(&'a [u8], Values<
 pub(super) fn linked<'a>(
     parent: Option<u32>,
     ports: &'a [(&'a [u8], PortKind, u32, u32, u32)],
-) -> Kind<'a> {
-    Kind {
+) -> TypeLiteral<'a> {
+    TypeLiteral {
         parent,
         attributes: &[],
         ports,
@@ -110,7 +113,8 @@ pub(super) fn linked<'a>(
 
 /// One type, whose parent is no type.
 pub(super) fn one_box(alloc: Global) -> Result<Items<TypeDecl>, AllocError>
-    ensures { IfOk result (λ types. types ≡ record { name = codes "Box"; parent = Some 7; attributes = []; ports = [] } ∷ []) }
+    ensures { IfOk result (λ types. types
+        ≡ record { name = codes "Box"; parent = Some 7; attributes = []; ports = [] } ∷ []) }
 {
     let mut types = Items::new(alloc);
     types.push(TypeDecl {

@@ -7,7 +7,7 @@ pub loop-e-preserved : goal.loop-e-preserved
 loop-e-preserved g c =
     let it = g.D.Declaration in
     let e = c.e-item.result in
-    let ds = it.declared c.args.kind.now in
+    let ds = it.declared c.args.decl.now in
     let name = it.name_of e.declared.now in
     narrowed_more it.declared it.name_of ds c.args.inherited.now c.loop-e.e-index c.loop-e.row c.push.new.self e c.kept.result
     c.loop-e-test.true c.e-item.is

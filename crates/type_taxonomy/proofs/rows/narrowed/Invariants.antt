@@ -6,4 +6,4 @@ use Rattle.type_taxonomy.proofs.rows.narrowed.Given as goal
 abbrev pub invariant-loop-e : goal.invariant-loop-e
 invariant-loop-e g l =
     map (named g.D.Declaration.name_of) l.row
-    ≡ narrowed_by g.D.Declaration.declared g.D.Declaration.name_of (g.D.Declaration.declared l.kind) (map (named g.D.Declaration.name_of) (take l.e-index l.inherited))
+    ≡ narrowed_by g.D.Declaration.declared g.D.Declaration.name_of (g.D.Declaration.declared l.decl) (map (named g.D.Declaration.name_of) (take l.e-index l.inherited))

@@ -1,11 +1,11 @@
 use Rattle.std.proofs.Common.{arith}
 use Rattle.std.proofs.lemmas.Result.{IfOk-weaker}
-use Rattle.type_taxonomy.proofs.FormedLaws.{few}
+use Rattle.prod_model.proofs.ShortLists.{formed_is_few}
 use Rattle.type_taxonomy.proofs.taxonomy.build.Goals as goal
 
 pub build_few-requires : goal.build_few-requires
 build_few-requires c =
-    let small = few c.args.model.now c.requires in
+    let small = formed_is_few c.args.model.now c.requires in
     record { few = omega arith; few_attributes = omega arith; few_ports = omega arith }
 
 pub returns-clause-taxonomy : goal.returns-clause-taxonomy

@@ -3,7 +3,7 @@ use Rattle.std.proofs.lemmas.Option.{MatchOption-at_some, MatchOption-at_none}
 use Rattle.prod_model.specs.declared.model.TypeDecl.{TypeDecl}
 use Rattle.prod_model.specs.Valid.{has_room_at}
 use Rattle.type_taxonomy.specs.steps.Built.{NarrowsAll, IsFirstWidening}
-use Rattle.type_taxonomy.specs.Faults.{Has}
+use Rattle.base_laws.specs.Places.{IsAt}
 use Rattle.type_taxonomy.specs.steps.Firsts.{IsFirstFailing}
 use Rattle.type_taxonomy.proofs.FormedLaws.{one_of_few}
 use Rattle.type_taxonomy.proofs.FirstFault.{HasRoomBelow, unknown_first, cycle_first, widening_first, crowded_first}
@@ -59,7 +59,7 @@ pub returns-in-Some-first_crowded-clause-fault : goal.returns-in-Some-first_crow
 returns-in-Some-first_crowded-clause-fault c =
     let same = c.in_ok-forest.ensures.model in
     let kind = c.in-Some-first_crowded.kind in
-    let narrow = subst (λ m. (t : ℕ) (d : TypeDecl) → Has m.types t d → NarrowsAll m t d) same (MatchOption-at_none _ (IsFirstWidening c.in_ok-forest.forest.model.now) c.in_default-2.is c.in_ok-fault.ensures) in
+    let narrow = subst (λ m. (t : ℕ) (d : TypeDecl) → IsAt m.types t d → NarrowsAll m t d) same (MatchOption-at_none _ (IsFirstWidening c.in_ok-forest.forest.model.now) c.in_default-2.is c.in_ok-fault.ensures) in
     crowded_first c.args.model.now kind c.in_default.ensures c.in_default-first_in_circle.ensures (λ t d within has. narrow t d has)
     (subst (λ m. IsFirstFailing (has_room_at m) (length m.types) (Some kind)) same c.in-Some-first_crowded.ensures)
 
@@ -68,5 +68,5 @@ returns-clause-taxonomy c =
     let same = c.in_ok-forest.ensures.model in
     λ distinct.
     taxonomy_is c.args.model.now distinct c.in_default.ensures c.in_default-first_in_circle.ensures
-    (subst (λ m. (t : ℕ) (d : TypeDecl) → Has m.types t d → NarrowsAll m t d) same (MatchOption-at_none _ (IsFirstWidening c.in_ok-forest.forest.model.now) c.in_default-2.is c.in_ok-fault.ensures))
+    (subst (λ m. (t : ℕ) (d : TypeDecl) → IsAt m.types t d → NarrowsAll m t d) same (MatchOption-at_none _ (IsFirstWidening c.in_ok-forest.forest.model.now) c.in_default-2.is c.in_ok-fault.ensures))
     (subst (λ m. HasRoomBelow m (length m.types)) same c.in_default-first_crowded.ensures)

@@ -6,12 +6,12 @@ use Rattle.type_taxonomy.proofs.widening.widening_of.Goals as goal
 pub returns-in-Some : goal.returns-in-Some
 returns-in-Some c =
     of_attribute c.in-Some.place refl
-    (attributes_told c.args.forest.now.model.now c.args.t c.args.kind.now c.args.above.now c.as_slice.result.now (Some c.in-Some.place) c.requires.above c.as_slice.ensures c.in-Some.ensures)
+    (attributes_told c.args.forest.now.model.now c.args.t c.args.decl.now c.args.above.now c.as_slice.result.now (Some c.in-Some.place) c.requires.above c.as_slice.ensures c.in-Some.ensures)
 
 pub returns-in_err-place : goal.returns-in_err-place
 returns-in_err-place c =
     let m = c.args.forest.now.model.now in
-    let d = c.args.kind.now in
+    let d = c.args.decl.now in
     let attributes = attributes_told m c.args.t d c.args.above.now c.as_slice.result.now None c.requires.above c.as_slice.ensures c.in_default.ensures in
     let ports = ports_told m c.args.t d c.args.above.now c.as_slice-2.result.now None c.requires.above c.as_slice-2.ensures c.in_err-place.ensures in
     subst (λ r. MatchOption r (NarrowsAll m c.args.t d) (IsWideningOf m c.args.t d)) (sym c.from_residual.ensures) (record { attributes = attributes; ports = ports })
@@ -19,7 +19,7 @@ returns-in_err-place c =
 pub returns : goal.returns
 returns c =
     let m = c.args.forest.now.model.now in
-    let d = c.args.kind.now in
+    let d = c.args.decl.now in
     of_port c.in_ok-place.place refl
     (attributes_told m c.args.t d c.args.above.now c.as_slice.result.now None c.requires.above c.as_slice.ensures c.in_default.ensures)
     (ports_told m c.args.t d c.args.above.now c.as_slice-2.result.now (Some c.in_ok-place.place) c.requires.above c.as_slice-2.ensures c.in_ok-place.ensures)
