@@ -6,8 +6,8 @@ use Rattle.prod_model.specs.declared.model.Model.{Model}
 use Rattle.prod_model.specs.declared.model.AttrAt.{AttrAt}
 use Rattle.prod_model.specs.Forest.{is_forest}
 use Rattle.prod_model.specs.Taxonomy.{attribute_of, words_of, first_words}
-use Rattle.expr_bounds.specs.steps.Parents.{parent_of}
-use Rattle.expr_bounds.proofs.FirstWords.{first_words_of_new}
+use Rattle.prod_model.specs.Forest.{parent_of}
+use Rattle.prod_model.proofs.FirstWords.{first_words_of_new}
 
 pub own_first_words : (m : Model) → IsTrue (is_forest m) → (t id : ℕ) → option_and_then (λ p. attribute_of m p id) (parent_of m t) ≡ None
     → IsSome (attribute_of m t id) → option_map_or (λ a. words_of a.domain) (attribute_of m t id) [] ≡ first_words m id

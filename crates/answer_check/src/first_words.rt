@@ -4,7 +4,7 @@ ghost use Rattle.std.specs.List.{find};
 ghost use Rattle.std.specs.Option.{option_copied, option_map_or};
 ghost use Rattle.prod_model.specs.Taxonomy.{attribute_of as attribute_at, first_words as words_at, words_of as words_in};
 ghost use Rattle.prod_model.specs.Valid.{IsValid};
-ghost use Rattle.expr_bounds.specs.steps.Parents.{parent_of as parent_at};
+ghost use Rattle.prod_model.specs.Forest.{parent_of as parent_at};
 
 use crate::types::attributes_of;
 use prod_model::{AttrAt, Domain, Name, Problem};

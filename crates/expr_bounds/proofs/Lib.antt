@@ -14,7 +14,5 @@ pub mod Found
 pub mod OwnOrder
 pub mod PartStandings
 pub mod PathOrder
-pub mod Rows
 pub mod SampleLaws
 pub mod WideParts
-pub mod FirstWords

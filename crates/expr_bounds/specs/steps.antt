@@ -1,6 +1,5 @@
 pub mod Arguments
 pub mod FormBounds
-pub mod Parents
 pub mod PlusArgument
 pub mod Sample
 pub mod Search

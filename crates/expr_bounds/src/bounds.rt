@@ -9,12 +9,12 @@ ghost use Rattle.prod_model.specs.ExprBounds.{bounds_at, sum_of_all as sum_of_li
 ghost use Rattle.prod_model.specs.Valid.{IsDeclared};
 ghost use Rattle.expr_bounds.specs.steps.FormBounds.{form_bounds as bounds_of_form};
 
-use crate::first_words::has_word;
 use crate::interval::{
     Sum, between, both_truths, compared, difference, exactly, multiple, range_of, sum_of_some,
     truth,
 };
-use crate::lookup::{attribute_of, is_type, port_of};
+use crate::names::has_word;
+use prod_model::limits::MOST_ARGUMENTS;
 use prod_model::{Bounds, Boxed, Expr, Items, Model, Tables};
 
 /// What an expression is at a type, and nothing where it has a fault there other than its nesting.
@@ -38,14 +38,14 @@ fn form_bounds(model: &Model, tables: &Tables, form: &Expr, at: u32) -> Option<B
 {
     match form {
         Expr::Num(n) => exactly(*n),
-        Expr::Attr(a) => range_of(attribute_of(model, tables, at, *a)?),
+        Expr::Attr(a) => range_of(tables.attribute_of(model, at, *a)?),
         Expr::Count(p) => links(model, tables, at, *p),
         Expr::CountOf(p, kind) => links_under(model, tables, at, *p, *kind),
         Expr::Sum(p, a) => sum_of_links(model, tables, at, *p, *a),
         Expr::Total(kind, a) => {
-            sum_of_some(0, model.instances, attribute_of(model, tables, *kind, *a)?)
+            sum_of_some(0, model.instances, tables.attribute_of(model, *kind, *a)?)
         }
-        Expr::Number(kind) => only_if(is_type(model, *kind), between(0, model.instances)),
+        Expr::Number(kind) => only_if(model.is_type(*kind), between(0, model.instances)),
         Expr::Add(args) => sum_of_all(model, tables, few(args)?, at),
         Expr::Sub(a, b) => difference(
             inner_bounds(model, tables, a, at),
@@ -57,10 +57,10 @@ fn form_bounds(model: &Model, tables: &Tables, form: &Expr, at: u32) -> Option<B
             inner_bounds(model, tables, b, at),
         ),
         Expr::Is(a, word) => {
-            let attribute = attribute_of(model, tables, at, *a)?;
+            let attribute = tables.attribute_of(model, at, *a)?;
             only_if(has_word(model, tables, at, attribute, *word), Bounds::Truth)
         }
-        Expr::Kind(kind) => only_if(is_type(model, *kind), Bounds::Truth),
+        Expr::Kind(kind) => only_if(model.is_type(*kind), Bounds::Truth),
         Expr::And(args) | Expr::Or(args) => all_truths(model, tables, few(args)?, at),
         Expr::Not(a) => truth(inner_bounds(model, tables, a, at)),
         Expr::If(a, b) => both_truths(
@@ -68,7 +68,7 @@ fn form_bounds(model: &Model, tables: &Tables, form: &Expr, at: u32) -> Option<B
             inner_bounds(model, tables, b, at),
         ),
         Expr::All(p, a) | Expr::Any(p, a) => {
-            let port = port_of(model, tables, at, *p)?;
+            let port = tables.port_of(model, at, *p)?;
             truth(inner_bounds(model, tables, a, port.target))
         }
     }
@@ -80,7 +80,7 @@ fn links(model: &Model, tables: &Tables, at: u32, p: u32) -> Option<Bounds>
     ensures { result ≡ option_map (λ q. Bounds.Number (pos q.low) (pos q.high))
         (port_at model.now at p) }
 {
-    let port = port_of(model, tables, at, p)?;
+    let port = tables.port_of(model, at, p)?;
     Some(between(port.low, port.high))
 }
 
@@ -91,8 +91,8 @@ fn links_under(model: &Model, tables: &Tables, at: u32, p: u32, kind: u32) -> Op
         then option_map (λ q. Bounds.Number (pos 0) (pos q.high)) (port_at model.now at p)
         else None) }
 {
-    let port = port_of(model, tables, at, p)?;
-    only_if(is_type(model, kind), between(0, port.high))
+    let port = tables.port_of(model, at, p)?;
+    only_if(model.is_type(kind), between(0, port.high))
 }
 
 /// The sum of an attribute over the links of a port.
@@ -101,8 +101,8 @@ fn sum_of_links(model: &Model, tables: &Tables, at: u32, p: u32, a: u32) -> Opti
     ensures { result ≡ option_and_then (λ q. option_and_then (of_range (sum_between q.low q.high))
         (attribute_at model.now q.target a)) (port_at model.now at p) }
 {
-    let port = port_of(model, tables, at, p)?;
-    let attribute = attribute_of(model, tables, port.target, a)?;
+    let port = tables.port_of(model, at, p)?;
+    let attribute = tables.attribute_of(model, port.target, a)?;
     sum_of_some(port.low, port.high, attribute)
 }
 
@@ -150,7 +150,7 @@ fn few(args: &Items<Expr>) -> Option<&[Expr]>
         then Some args.now else None) }
     ensures few { IfSome result (λ s. length s.now ≤ most_arguments) }
 {
-    if args.is_empty() || args.len() > 64 {
+    if args.is_empty() || args.len() > MOST_ARGUMENTS {
         return None;
     }
     Some(args.as_slice())

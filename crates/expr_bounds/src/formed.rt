@@ -6,6 +6,7 @@ ghost use Rattle.expr_bounds.specs.Forms.{is_form};
 
 use crate::form::{argument, argument_count};
 use prod_model::Expr;
+use prod_model::limits::MOST_ARGUMENTS;
 
 /// Whether each list of arguments has 1 to 64 members: the condition `form` of `bounds_of`. It
 /// takes one step a part of the expression.
@@ -27,7 +28,8 @@ fn has_right_count(form: &Expr) -> bool
     ensures { result ≡ has_count (out-Expr form.now) }
 {
     match form {
-        Expr::Add(args) | Expr::And(args) | Expr::Or(args) => !args.is_empty() && args.len() <= 64,
+        Expr::Add(args) | Expr::And(args) | Expr::Or(args) => !args.is_empty()
+            && args.len() <= MOST_ARGUMENTS,
         _ => true,
     }
 }

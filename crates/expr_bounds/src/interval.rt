@@ -5,11 +5,12 @@ ghost use Rattle.prod_model.specs.ExprBounds.{bounded as bounded_of, sum_of_some
 ghost use Rattle.std.specs.Option.{option_map};
 ghost use Rattle.expr_bounds.specs.steps.PlusArgument.{sum_with};
 
+use prod_model::limits::FARTHEST_BOUND;
 use prod_model::{AttrAt, Bounds, Domain};
 use std::cmp::{max, min};
 
 /// How far a bound may be from 0.
-const FARTHEST: i128 = 1_000_000_000_000_000;
+const FARTHEST: i128 = FARTHEST_BOUND as i128;
 
 /// A number between two bounds, unless one of them leaves the limits.
 pub(crate) fn bounded(low: i128, high: i128) -> Option<Bounds>

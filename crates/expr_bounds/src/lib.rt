@@ -4,13 +4,11 @@
 mod bounds;
 mod fault;
 mod fault_kind;
-mod first_words;
 mod form;
 mod formed;
 mod interval;
 mod judge;
 pub mod laws;
-mod lookup;
 mod names;
 mod own;
 #[cfg(test)]

@@ -3,10 +3,9 @@ ghost use Rattle.std.specs.Prelude.{◌≡◌, slice_get, length, IsSome};
 ghost use Rattle.prod_model.specs.declared.expr.Expr.TheViews.{out-Expr};
 ghost use Rattle.prod_model.specs.Taxonomy.{tables_of, attribute_of as attribute_at};
 ghost use Rattle.prod_model.specs.Valid.{IsDeclared};
+ghost use Rattle.prod_model.specs.ExprBounds.{is_word_of};
 ghost use Rattle.expr_bounds.specs.Faults.{place_unless, unknown_names, is_known_word, has_range as has_range_in};
 
-use crate::first_words::has_word;
-use crate::lookup::{attribute_of, is_type, port_of};
 use prod_model::{AttrAt, Domain, Expr, Model, Tables};
 
 /// The place of the first name or word of a form that is not allowed there.
@@ -16,28 +15,28 @@ pub(crate) fn unknown_name(model: &Model, tables: &Tables, form: &Expr, at: u32)
     ensures { result ≡ slice_get (unknown_names model.now (out-Expr form.now) at) 0 }
 {
     match form {
-        Expr::Attr(a) => unless(attribute_of(model, tables, at, *a).is_some(), 1),
+        Expr::Attr(a) => unless(tables.attribute_of(model, at, *a).is_some(), 1),
         Expr::Count(p) | Expr::All(p, _) | Expr::Any(p, _) => {
-            unless(port_of(model, tables, at, *p).is_some(), 1)
+            unless(tables.port_of(model, at, *p).is_some(), 1)
         }
         Expr::CountOf(p, kind) => {
-            if port_of(model, tables, at, *p).is_none() {
+            if tables.port_of(model, at, *p).is_none() {
                 return Some(1);
             }
-            unless(is_type(model, *kind), 2)
+            unless(model.is_type(*kind), 2)
         }
-        Expr::Sum(p, a) => match port_of(model, tables, at, *p) {
-            Some(port) => unless(attribute_of(model, tables, port.target, *a).is_some(), 2),
+        Expr::Sum(p, a) => match tables.port_of(model, at, *p) {
+            Some(port) => unless(tables.attribute_of(model, port.target, *a).is_some(), 2),
             None => Some(1),
         },
         Expr::Total(kind, a) => {
-            if !is_type(model, *kind) {
+            if !model.is_type(*kind) {
                 return Some(1);
             }
-            unless(attribute_of(model, tables, *kind, *a).is_some(), 2)
+            unless(tables.attribute_of(model, *kind, *a).is_some(), 2)
         }
-        Expr::Number(kind) | Expr::Kind(kind) => unless(is_type(model, *kind), 1),
-        Expr::Is(a, word) => match attribute_of(model, tables, at, *a) {
+        Expr::Number(kind) | Expr::Kind(kind) => unless(model.is_type(*kind), 1),
+        Expr::Is(a, word) => match tables.attribute_of(model, at, *a) {
             Some(attribute) => unless(is_known(model, tables, at, attribute, *word), 2),
             None => Some(1),
         },
@@ -61,6 +60,26 @@ fn is_known(model: &Model, tables: &Tables, at: u32, attribute: &AttrAt, word: u
     ensures { result ≡ is_known_word model.now word attribute.now }
 {
     has_range(attribute) || has_word(model, tables, at, attribute, word)
+}
+
+/// Whether an attribute of a type has words, and this is one of its first declaration, also where
+/// the type narrows it away.
+pub(crate) fn has_word(
+    model: &Model,
+    tables: &Tables,
+    at: u32,
+    attribute: &AttrAt,
+    word: u32,
+) -> bool
+    requires declared { IsDeclared model.now }
+    requires tables { tables.now ≡ tables_of model.now }
+    requires has { attribute_at model.now at attribute.now.id ≡ Some attribute.now }
+    ensures { result ≡ is_word_of model.now word attribute.now }
+{
+    match attribute.domain {
+        Domain::Range { .. } => false,
+        Domain::Words(_) => (word as usize) < tables.first_words(model, at, attribute.id).len(),
+    }
 }
 
 /// Whether the attribute has a range. The others have words.

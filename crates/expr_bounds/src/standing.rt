@@ -7,7 +7,7 @@ ghost use Rattle.expr_bounds.specs.Parts.{type_of_arguments as type_below};
 ghost use Rattle.expr_bounds.specs.steps.Search.{levels_below, whole_at, standing_below};
 
 use crate::form::takes_truths;
-use crate::lookup::port_of;
+use prod_model::limits::MOST_NESTING;
 use prod_model::{Expr, Model, Tables};
 
 /// Where a part of an expression stands.
@@ -28,7 +28,7 @@ impl Standing {
         ensures { result ≡ whole_at at }
     {
         Standing {
-            levels: Some(16),
+            levels: Some(MOST_NESTING as u32),
             at: Some(at),
             needs_truth: None,
         }
@@ -66,7 +66,7 @@ pub(crate) fn type_of_arguments(
     ensures { result ≡ type_below model.now (out-Expr form.now) at }
 {
     match form {
-        Expr::All(p, _) | Expr::Any(p, _) => Some(port_of(model, tables, at?, *p)?.target),
+        Expr::All(p, _) | Expr::Any(p, _) => Some(tables.port_of(model, at?, *p)?.target),
         _ => at,
     }
 }

@@ -5,7 +5,6 @@ ghost use Rattle.prod_model.specs.declared.expr.Expr.TheViews.{out-Expr};
 ghost use Rattle.prod_model.specs.Taxonomy.{tables_of};
 ghost use Rattle.expr_bounds.specs.Faults.{place_unless, has_range as has_range_in, has_words as has_words_in, wrong_attributes};
 
-use crate::lookup::{attribute_of, port_of};
 use crate::names::has_range;
 use prod_model::{AttrAt, Expr, Model, Tables};
 
@@ -15,13 +14,13 @@ pub(crate) fn wrong_attribute(model: &Model, tables: &Tables, form: &Expr, at: u
     ensures { result ≡ slice_get (wrong_attributes model.now (out-Expr form.now) at) 0 }
 {
     match form {
-        Expr::Attr(a) => place_of_words(attribute_of(model, tables, at, *a), 1),
-        Expr::Total(kind, a) => place_of_words(attribute_of(model, tables, *kind, *a), 2),
+        Expr::Attr(a) => place_of_words(tables.attribute_of(model, at, *a), 1),
+        Expr::Total(kind, a) => place_of_words(tables.attribute_of(model, *kind, *a), 2),
         Expr::Sum(p, a) => {
-            let port = port_of(model, tables, at, *p)?;
-            place_of_words(attribute_of(model, tables, port.target, *a), 2)
+            let port = tables.port_of(model, at, *p)?;
+            place_of_words(tables.attribute_of(model, port.target, *a), 2)
         }
-        Expr::Is(a, _) => place_of_range(attribute_of(model, tables, at, *a), 1),
+        Expr::Is(a, _) => place_of_range(tables.attribute_of(model, at, *a), 1),
         _ => None,
     }
 }

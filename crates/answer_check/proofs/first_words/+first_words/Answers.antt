@@ -3,8 +3,8 @@ use Rattle.std.specs.Prelude.{IsSome}
 use Rattle.std.specs.Option.{option_and_then}
 use Rattle.prod_model.specs.Forest.{line}
 use Rattle.prod_model.specs.Taxonomy.{attribute_of as attribute_at}
-use Rattle.expr_bounds.specs.steps.Parents.{parent_of as parent_at}
-use Rattle.expr_bounds.proofs.FirstWords.{line_of_parent_shorter}
+use Rattle.prod_model.specs.Forest.{parent_of as parent_at}
+use Rattle.prod_model.proofs.FirstWords.{line_of_parent_shorter}
 use Rattle.answer_check.proofs.OwnWords.{own_first_words}
 use Rattle.answer_check.proofs.first_words.+first_words.Goals as goal
 

@@ -1,7 +1,7 @@
 use Rattle.std.proofs.Common.{◌≡◌, ◌∙◌, [], ◌∷◌, Some, None, rules}
 use Rattle.prod_model.specs.Taxonomy.{attribute_of as attribute_at}
 use Rattle.prod_model.specs.ExprBounds.{truth_of}
-use Rattle.expr_bounds.proofs.FirstWords.{attribute_of_same_id}
+use Rattle.prod_model.proofs.FirstWords.{attribute_of_same_id}
 use Rattle.expr_bounds.specs.steps.PlusArgument.{sum_with}
 use Rattle.expr_bounds.proofs.BoundsLaws.{truths_turn, truths_stop, sums_turn, sums_stop}
 use Rattle.expr_bounds.proofs.bounds.+forms.Goals as goal

@@ -1,6 +1,6 @@
 use Rattle.std.proofs.Common.{◌≡◌, Some, rules}
 use Rattle.prod_model.specs.Taxonomy.{attribute_of as attribute_at}
-use Rattle.expr_bounds.proofs.FirstWords.{attribute_of_same_id}
+use Rattle.prod_model.proofs.FirstWords.{attribute_of_same_id}
 use Rattle.expr_bounds.proofs.names.unknown_name.Goals as goal
 
 -- what was found under the id has the id
