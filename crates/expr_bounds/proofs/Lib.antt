@@ -2,6 +2,7 @@ pub mod ArgumentLaws
 pub mod Bounded
 pub mod BoundsLaws
 pub mod Elements
+mod EndsExamples
 pub mod EndsLaws
 pub mod Faultless
 pub mod FaultlessBounded

@@ -3,6 +3,7 @@ ghost use Rattle.std.specs.Prelude.{◌≡◌, ◌∷◌, [], pos, neg_ℤ, ◌+
 ghost use Rattle.std.specs.Int.{int_min, int_max};
 ghost use Rattle.prod_model.specs.ExprBounds.{bounded as bounded_of, sum_of_some as sum_of, of_range, difference as difference_of, multiple as multiple_of, comparison, truth_of};
 ghost use Rattle.std.specs.Option.{option_map};
+ghost use Rattle.prod_model.specs.Limits.{most_arguments};
 ghost use Rattle.expr_bounds.specs.steps.PlusArgument.{sum_with};
 
 use prod_model::limits::FARTHEST_BOUND;
@@ -113,7 +114,7 @@ fn subtracted(a: i64, b: i64) -> i128
     i128::from(a) - i128::from(b)
 }
 
-/// A sum of at most 64 numbers. None of their bounds is as far as 2^63 from 0.
+/// A sum of at most 64 numbers, each within -2^63 to 2^63.
 #[derive(Clone, Copy)]
 pub(crate) struct Sum {
     low: i128,
@@ -138,7 +139,7 @@ impl Sum {
 
     /// With one more argument, if it is a number.
     pub(crate) fn plus(self, more: Option<Bounds>) -> Option<Sum>
-        requires { self.count < 64 }
+        requires { self.count < most_arguments }
         ensures sum { option_map (λ s. (s.low, s.high)) result ≡ sum_with self.low self.high more }
         ensures count { IfSome result (λ s. s.count ≡ self.count + 1) }
     {
@@ -149,7 +150,7 @@ impl Sum {
     }
 
     fn plus_number(self, low: i64, high: i64) -> Sum
-        requires { self.count < 64 }
+        requires { self.count < most_arguments }
         ensures low { result.low ≡ self.low +ℤ low }
         ensures high { result.high ≡ self.high +ℤ high }
         ensures count { result.count ≡ self.count + 1 }
