@@ -9,12 +9,12 @@ ghost use Rattle.prod_model.specs.ExprBounds.{bounds_at, sum_of_all as sum_of_li
 ghost use Rattle.prod_model.specs.Valid.{IsDeclared};
 ghost use Rattle.expr_bounds.specs.steps.FormBounds.{form_bounds as bounds_of_form};
 
+use crate::form::may_list;
 use crate::interval::{
     Sum, between, both_truths, compared, difference, exactly, multiple, range_of, sum_of_some,
     truth,
 };
 use crate::names::has_word;
-use prod_model::limits::MOST_ARGUMENTS;
 use prod_model::{Bounds, Boxed, Expr, Items, Model, Tables};
 
 /// What an expression is at a type, and nothing where it has a fault there other than its nesting.
@@ -150,10 +150,11 @@ fn few(args: &Items<Expr>) -> Option<&[Expr]>
         then Some args.now else None) }
     ensures few { IfSome result (λ s. length s.now ≤ most_arguments) }
 {
-    if args.is_empty() || args.len() > MOST_ARGUMENTS {
-        return None;
+    if may_list(args.len()) {
+        Some(args.as_slice())
+    } else {
+        None
     }
-    Some(args.as_slice())
 }
 
 fn only_if(known: bool, bounds: Bounds) -> Option<Bounds>

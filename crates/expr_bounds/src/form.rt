@@ -1,10 +1,19 @@
 //! The argument expressions of a form, and whether it is a truth.
 ghost use Rattle.std.specs.Prelude.{◌≡◌, ◌<◌, length, slice_get};
 ghost use Rattle.prod_model.specs.declared.expr.Expr.TheViews.{out-Expr};
+ghost use Rattle.prod_model.specs.Limits.{is_between, most_arguments};
 ghost use Rattle.expr_bounds.specs.steps.Arguments.{argument_list, first_place};
 ghost use Rattle.expr_bounds.specs.Faults.{is_truth_form, needs_truths};
 
 use prod_model::Expr;
+use prod_model::limits::MOST_ARGUMENTS;
+
+/// Whether a form may list so many arguments, which are 1 to 64.
+pub(crate) fn may_list(count: usize) -> bool
+    ensures { result ≡ is_between 1 most_arguments count }
+{
+    count >= 1 && count <= MOST_ARGUMENTS
+}
 
 /// How many argument expressions a form has.
 pub(crate) fn argument_count(form: &Expr) -> usize

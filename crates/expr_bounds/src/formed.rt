@@ -4,9 +4,8 @@ ghost use Rattle.prod_model.specs.declared.expr.Expr.TheViews.{out-Expr};
 ghost use Rattle.expr_bounds.specs.steps.Arguments.{has_right_count as has_count};
 ghost use Rattle.expr_bounds.specs.Forms.{is_form};
 
-use crate::form::{argument, argument_count};
+use crate::form::{argument, argument_count, may_list};
 use prod_model::Expr;
-use prod_model::limits::MOST_ARGUMENTS;
 
 /// Whether each list of arguments has 1 to 64 members: the condition `form` of `bounds_of`. It
 /// takes one step a part of the expression.
@@ -28,8 +27,7 @@ fn has_right_count(form: &Expr) -> bool
     ensures { result ≡ has_count (out-Expr form.now) }
 {
     match form {
-        Expr::Add(args) | Expr::And(args) | Expr::Or(args) => !args.is_empty()
-            && args.len() <= MOST_ARGUMENTS,
+        Expr::Add(args) | Expr::And(args) | Expr::Or(args) => may_list(args.len()),
         _ => true,
     }
 }
