@@ -1,5 +1,5 @@
 -- New declarations under their ids.
-use Rattle.std.proofs.Common.{◌≡◌, ℕ, ◌+◌, ◌<◌, ◌≤◌, suc, Bool, true, false, cond, List, [], ◌∷◌, ◌++◌, length, get_or, take, map, sym, ap, ◌∙◌, refl, arith, append-nil, add-zero, zero-add, slice_get, Some, drop}
+use Rattle.std.proofs.Common.{◌≡◌, ℕ, ◌+◌, ◌<◌, ◌≤◌, suc, Bool, true, false, cond, List, [], ◌∷◌, ◌++◌, length, get_or, take, map, sum_by, sym, ap, ◌∙◌, refl, arith, append-nil, add-zero, zero-add, slice_get, Some, drop}
 use Rattle.std.specs.Option.{option_map_or}
 use Rattle.std.specs.List.{filter}
 use Rattle.std.proofs.lemmas.List.{map-append, length-map}
@@ -8,7 +8,7 @@ use Rattle.prod_model.specs.Forest.{line}
 use Rattle.prod_model.specs.Taxonomy.{first_id, new_declarations}
 use Rattle.type_taxonomy.specs.declared.entry.Entry.{Entry}
 use Rattle.type_taxonomy.specs.steps.Entries.{named, is_new_among, numbered}
-use Rattle.type_taxonomy.proofs.Items.{filter_next, sum_by_range_more, length_filter_le}
+use Rattle.type_taxonomy.proofs.Items.{filter_next, sum_by_range_more, length_filter_le, sum_by_next_lt}
 
 module _ {D : Type 0} (declared : TypeDecl → List D) (name_of : D → List ℕ) where
   pub length_numbered : (id : ℕ) (ds : List D) → length (numbered declared name_of id ds) ≡ length ds
@@ -62,6 +62,13 @@ module _ {D : Type 0} (declared : TypeDecl → List D) (name_of : D → List ℕ
   pub length_new_le : (first : ℕ) (p : D → Bool) (ds : List D) (row : List (Entry D)) (size : ℕ) → size ≡ length row
       → map (named name_of) row ≡ numbered declared name_of first (filter p ds) → size ≤ length ds
   length_new_le first p ds row size is_size is = omega (arith, length_new first (filter p ds) row is, length_filter_le p ds)
+
+  -- the first id of the next type is within a limit of the declarations
+  pub next_id_lt : (types : List TypeDecl) (t next most : ℕ) (d : TypeDecl) (p : D → Bool) (row : List (Entry D)) (size : ℕ) → t < length types → d ≡ get_or types t d
+      → next ≤ sum_by (λ e. length (declared e)) (take t types) → sum_by (λ e. length (declared e)) types < most → size ≡ length row
+      → map (named name_of) row ≡ numbered declared name_of next (filter p (declared d)) → next + size < most
+  next_id_lt types t next most d p row size within is so_far all is_size is_row =
+      omega (arith, sum_by_next_lt (λ e. length (declared e)) types t next most d within is so_far all, length_new_le next p (declared d) row size is_size is_row)
 
   -- the ids of the next type begin after those of this one
   pub first_id_more : (types : List TypeDecl) (t next size : ℕ) → next ≡ first_id declared name_of types t → size ≡ length (new_declarations declared name_of types t)

@@ -14,11 +14,20 @@ pub(crate) fn first_in_circle(model: &Model, lines: &[Items<u32>]) -> Option<u32
     ensures { IsFirstFailing (λ t. not (is_in_circle model.now t)) (length model.now.types) result }
 {
     for t in 0..model.types.len() {
-        if is_below_itself(lines[t].as_slice(), t as u32) {
+        if is_in_circle(model, lines, t as u32) {
             return Some(t as u32);
         }
     }
     None
+}
+
+/// Whether the type is its own ancestor.
+fn is_in_circle(model: &Model, lines: &[Items<u32>], t: u32) -> bool
+    requires lines { AreLines model.now.types lines.now }
+    requires known { t < length model.now.types }
+    ensures { result ≡ is_in_circle model.now t }
+{
+    is_below_itself(lines[t as usize].as_slice(), t)
 }
 
 /// Whether the type is on the line above its first member.

@@ -1,5 +1,6 @@
 //! Whether types have too many attributes or ports.
-ghost use Rattle.std.specs.Prelude.{◌≡◌, ◌<◌, ◌^◌, length};
+ghost use Rattle.std.specs.Prelude.{◌≡◌, ◌<◌, ◌&&◌, ◌^◌, nat_le, length};
+ghost use Rattle.prod_model.specs.Limits.{most_attributes_of_type, most_ports_of_type};
 ghost use Rattle.prod_model.specs.Valid.{has_room_at};
 ghost use Rattle.type_taxonomy.specs.steps.Built.{IsBuilt};
 ghost use Rattle.type_taxonomy.specs.steps.Firsts.{IsFirstFailing};
@@ -29,5 +30,11 @@ fn has_room(forest: &Forest, t: u32) -> bool
 {
     let attributes = forest.attributes.as_slice()[t as usize].len();
     let ports = forest.ports.as_slice()[t as usize].len();
+    has_room_for(attributes, ports)
+}
+
+fn has_room_for(attributes: usize, ports: usize) -> bool
+    ensures { result ≡ (nat_le attributes most_attributes_of_type && nat_le ports most_ports_of_type) }
+{
     attributes <= MOST_ATTRIBUTES_OF_TYPE && ports <= MOST_PORTS_OF_TYPE
 }

@@ -12,6 +12,7 @@ abbrev pub named : {D : Type 0} → (D → List ℕ) → Entry D → Named (ℕ 
 named name_of e = record { name = name_of e.declared.now; what = (e.id, e.declared.now) }
 
 module _ {D : Type 0} (declared : TypeDecl → List D) (name_of : D → List ℕ) where
+  -- a new declaration, under its id
   abbrev pub placed : ℕ → D → ℕ × D
   placed id d = (id, d)
 

@@ -5,7 +5,7 @@ use Rattle.prod_model.specs.Forest.{line}
 use Rattle.prod_model.specs.Taxonomy.{first_id, new_declarations}
 use Rattle.type_taxonomy.specs.steps.Entries.{named, is_new_among, numbered, new_of}
 use Rattle.type_taxonomy.proofs.Items.{length_table, table_row, table_map_more, sum_by_take_le, sum_by_next_lt}
-use Rattle.type_taxonomy.proofs.NewEntries.{length_new, length_new_le, new_of_type, first_id_more}
+use Rattle.type_taxonomy.proofs.NewEntries.{length_new, length_new_le, next_id_lt, new_of_type, first_id_more}
 use Rattle.type_taxonomy.proofs.new_entries.all_new.Goals as goal
 
 pub bounds-lines-t : goal.bounds-lines-t
@@ -20,19 +20,21 @@ pub overflow_cast-next : goal.overflow_cast-next
 overflow_cast-next g c =
     let it = g.D.Declaration in
     let is_new = is_new_among it.declared it.name_of c.args.types.now (drop 1 c.as_slice.result.now) in
-    let few = length_new_le it.declared it.name_of c.loop-t.next is_new (it.declared c.index-types-t.result) c.in_ok-row.row c.len.result c.len.ensures c.in_ok-row.ensures in
-    let below = sum_by_next_lt (λ d. length (it.declared d)) c.args.types.now c.loop-t.t c.loop-t.next (2 ^ 32) c.index-types-t.result c.loop-t-test.true c.index-types-t.is
-    c.loop-t.invariant.few c.requires.few in
-    omega arith
+    omega (
+      arith,
+      next_id_lt it.declared it.name_of c.args.types.now c.loop-t.t c.loop-t.next (2 ^ 32) c.index-types-t.result is_new c.in_ok-row.row c.len.result c.loop-t-test.true c.index-types-t.is
+          c.loop-t.invariant.few c.requires.few c.len.ensures c.in_ok-row.ensures,
+    )
 
 pub overflow_add-next : goal.overflow_add-next
 overflow_add-next g c =
     let it = g.D.Declaration in
     let is_new = is_new_among it.declared it.name_of c.args.types.now (drop 1 c.as_slice.result.now) in
-    let few = length_new_le it.declared it.name_of c.loop-t.next is_new (it.declared c.index-types-t.result) c.in_ok-row.row c.len.result c.len.ensures c.in_ok-row.ensures in
-    let below = sum_by_next_lt (λ d. length (it.declared d)) c.args.types.now c.loop-t.t c.loop-t.next (2 ^ 32) c.index-types-t.result c.loop-t-test.true c.index-types-t.is
-    c.loop-t.invariant.few c.requires.few in
-    omega arith
+    omega (
+      arith,
+      next_id_lt it.declared it.name_of c.args.types.now c.loop-t.t c.loop-t.next (2 ^ 32) c.index-types-t.result is_new c.in_ok-row.row c.len.result c.loop-t-test.true c.index-types-t.is
+          c.loop-t.invariant.few c.requires.few c.len.ensures c.in_ok-row.ensures,
+    )
 
 pub loop-t-preserved : goal.loop-t-preserved
 loop-t-preserved g c =
