@@ -29,7 +29,8 @@ abbrev pub Has : {A : Type 0} → List A → ℕ → A → Type 0
 Has xs k x = slice_get xs k ≡ Some x
 
 -- the instance that breaks a test has this port at the item's place, with these links
-pub record HasPort (m : Model) (c : List Instance) (b : Break) (p : PortAt) (links : List ℕ) : Type 0 where
+pub record HasPort (m : Model) (c : List Instance) (b : Break) (p : PortAt) (links : List ℕ)
+    : Type 0 where
   pub x : Instance
   pub stands : Has c b.instance x
   pub port : Has (ports_at m x.kind) b.item p
@@ -42,39 +43,53 @@ most_part_links j = if j == 0 then 0 else 1
 -- Which test is broken at which instance, and at which item there.
 pub data Breaks (m : Model) (c : List Instance) (b : Break) : Type 0 where
   -- there are more instances than the model allows
-  too_many : b.code ≡ too_many_code → b.instance ≡ m.instances → b.item ≡ 0 → m.instances < length c → Breaks m c b
+  too_many : b.code ≡ too_many_code → b.instance ≡ m.instances → b.item ≡ 0
+      → m.instances < length c → Breaks m c b
   -- instance 0 is not under the root type
-  other_root : b.code ≡ other_root_code → b.instance ≡ 0 → b.item ≡ 0 → IsFalse (is_under m c m.root 0) → Breaks m c b
+  other_root : b.code ≡ other_root_code → b.instance ≡ 0 → b.item ≡ 0
+      → IsFalse (is_under m c m.root 0) → Breaks m c b
   -- a value is not in its domain
-  bad_value : b.code ≡ bad_value_code → (x : Instance) (a : AttrAt) (v : ℤ) → Has c b.instance x → Has (attributes_at m x.kind) b.item a → Has x.values b.item v
+  bad_value : b.code ≡ bad_value_code → (x : Instance) (a : AttrAt) (v : ℤ) → Has c b.instance x
+      → Has (attributes_at m x.kind) b.item a → Has x.values b.item v
       → IsFalse (has_value m a v) → Breaks m c b
   -- a link leads to no instance
-  no_instance : b.code ≡ no_instance_code → (p : PortAt) (links : List ℕ) (j : ℕ) → HasPort m c b p links → Contains links j → length c ≤ j → Breaks m c b
+  no_instance : b.code ≡ no_instance_code → (p : PortAt) (links : List ℕ) (j : ℕ)
+      → HasPort m c b p links → Contains links j → length c ≤ j → Breaks m c b
   -- a link leads to an instance that is not under the target
-  off_target : b.code ≡ off_target_code → (p : PortAt) (links : List ℕ) (j : ℕ) (y : Instance) → HasPort m c b p links → Contains links j → Has c j y
+  off_target : b.code ≡ off_target_code → (p : PortAt) (links : List ℕ) (j : ℕ) (y : Instance)
+      → HasPort m c b p links → Contains links j → Has c j y
       → IsFalse (under m p.target y) → Breaks m c b
   -- the number of links is outside the port's pair
-  bad_number : b.code ≡ bad_number_code → (p : PortAt) (links : List ℕ) → HasPort m c b p links → IsFalse (is_between p.low p.high (length links)) → Breaks m c b
+  bad_number : b.code ≡ bad_number_code → (p : PortAt) (links : List ℕ) → HasPort m c b p links
+      → IsFalse (is_between p.low p.high (length links)) → Breaks m c b
   -- two or more part links lead to an instance, or one to instance 0
   shared_part : b.code ≡ shared_part_code → b.item ≡ 0 → b.instance < length c
       → most_part_links b.instance < count_by (λ j. j == b.instance) (part_links m c) → Breaks m c b
   -- an instance from 1 on is not in turn
-  misnumbered : b.code ≡ misnumbered_code → b.item ≡ 0 → 1 ≤ b.instance → b.instance < length c → IsFalse (is_in_turn c b.instance) → Breaks m c b
+  misnumbered : b.code ≡ misnumbered_code → b.item ≡ 0 → 1 ≤ b.instance → b.instance < length c
+      → IsFalse (is_in_turn c b.instance) → Breaks m c b
   -- a count of instances is outside its bound
   bad_count : b.code ≡ bad_count_code → b.instance ≡ 0 → (n : CountBound) → Has m.bounds b.item n
       → IsFalse (is_between n.low n.high (count_by (under m n.kind) c)) → Breaks m c b
   -- a rule is false at an instance under its type
-  false_rule : b.code ≡ false_rule_code → (x : Instance) (r : Rule) → Has c b.instance x → Has m.rules b.item r → IsTrue (under m r.kind x)
+  false_rule : b.code ≡ false_rule_code → (x : Instance) (r : Rule) → Has c b.instance x
+      → Has m.rules b.item r → IsTrue (under m r.kind x)
       → IsFalse (is_true_at m c b.instance r.holds) → Breaks m c b
+
+-- the code, the instance and the item
+abbrev pub numbers_of : Break → List ℕ
+numbers_of b = b.code ∷ b.instance ∷ b.item ∷ []
 
 -- by code, then by instance, then by item
 abbrev pub IsBreakBefore : Break → Break → Type 0
-IsBreakBefore b d = IsTrue (is_lt (slice_cmp nat_cmp (b.code ∷ b.instance ∷ b.item ∷ []) (d.code ∷ d.instance ∷ d.item ∷ [])))
+IsBreakBefore b d = IsTrue (is_lt (slice_cmp nat_cmp (numbers_of b) (numbers_of d)))
 
+-- the broken test before which no other is broken
 abbrev pub IsFirstBreak : Model → List Instance → Break → Type 0
 IsFirstBreak m c = IsFirst (Breaks m c) IsBreakBefore
 
 -- what a verdict says: which test is broken first
 abbrev pub Tells : Model → List Instance → Verdict → Type 0
 Tells m c Satisfied = Unit {0}
-Tells m c (Broken code instance item) = IsFirstBreak m c (record { code = code; instance = instance; item = item })
+Tells m c (Broken code instance item) =
+    IsFirstBreak m c (record { code = code; instance = instance; item = item })

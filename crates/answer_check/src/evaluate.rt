@@ -12,9 +12,10 @@ use config_value::{Configuration, Found};
 use expr_bounds::is_truth;
 use prod_model::{Expr, Problem};
 
-/// What an expression is at an instance, which is under a type where the expression has no fault. Each part of the
-/// expression is gone over once, for all instances at which it is asked. There a number takes a step for each instance or
-/// link that it counts, and a truth about linked instances a step for each link.
+/// What an expression is at an instance, which is under a type where the expression has no fault.
+/// Each part of the expression is gone over once, for all instances at which it is asked. There a
+/// number takes a step for each instance or link that it counts, and a truth about linked instances
+/// a step for each link.
 pub fn value_at(problem: &Problem, c: &Configuration, i: u32, e: &Expr) -> Found
     requires shaped { IsTrue (is_shaped problem.now c.now) }
     requires instance { i < length c.now }

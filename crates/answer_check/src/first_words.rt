@@ -9,8 +9,8 @@ ghost use Rattle.prod_model.specs.Forest.{parent_of as parent_at};
 use crate::types::attributes_of;
 use prod_model::{AttrAt, Domain, Name, Problem};
 
-/// The words of the first declaration of an attribute that the type has. The first type on the way up whose parent has not
-/// the attribute has it as it was declared first.
+/// The words of the first declaration of an attribute that the type has. The first type on the way
+/// up whose parent has not the attribute has it as it was declared first.
 pub(crate) fn first_words(problem: &Problem, kind: u32, id: u32) -> &[Name]
     requires valid { IsValid problem.now }
     requires known { IsSome (attribute_at problem.now kind id) }
@@ -46,7 +46,8 @@ fn find_attribute(attributes: &[AttrAt], id: u32) -> Option<&AttrAt>
 
 /// The words of an attribute at the type, which may narrow it.
 fn own_words(problem: &Problem, kind: u32, id: u32) -> &[Name]
-    ensures { result.now ≡ option_map_or (λ a. words_in a.domain) (attribute_at problem.now kind id) [] }
+    ensures { result.now
+        ≡ option_map_or (λ a. words_in a.domain) (attribute_at problem.now kind id) [] }
 {
     match attribute_of(problem, kind, id) {
         Some(attribute) => words_of(attribute),

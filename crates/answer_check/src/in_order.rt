@@ -20,8 +20,9 @@ use crate::verdict::Verdict;
 use config_value::Configuration;
 use prod_model::Problem;
 
-/// Whether the configuration satisfies the model, and else the first test that it breaks. The tests go in the order of their
-/// numbers, each in a pass or two over the instances or their links, and the rules come last, when the shape is known.
+/// Whether the configuration satisfies the model, and else the first test that it breaks. The tests
+/// go in the order of their numbers, each in a pass or two over the instances or their links, and
+/// the rules come last, when the shape is known.
 pub fn check(problem: &Problem, c: &Configuration) -> Verdict
     requires { IsTrue (is_spelled problem.now c.now) }
     ensures satisfied { (result ≡ Satisfied) ↔ IsTrue (satisfies problem.now c.now) }

@@ -5,7 +5,8 @@ ghost use Rattle.answer_check.specs.steps.InstanceSets.{is_member, with_instance
 
 use crate::masks::{bit, first_bit, has_bit};
 
-/// A set of instances. Bit j of the mask stands for instance j, of which a configuration has at most 64.
+/// A set of instances. Bit j of the mask stands for instance j, of which a configuration has at
+/// most 64.
 #[derive(Clone, Copy)]
 pub(crate) struct InstanceSet {
     mask: u64,
@@ -21,7 +22,8 @@ impl InstanceSet {
     /// The set with one more instance. One of number 64 or more has no place.
     pub(crate) fn with(self, j: u32) -> InstanceSet
         ensures set { result ≡ with_instance self j }
-        ensures members { (k : ℕ) → is_member result k ≡ (is_member self k || ((k == j) && nat_lt j 64)) }
+        ensures members { (k : ℕ)
+            → is_member result k ≡ (is_member self k || ((k == j) && nat_lt j 64)) }
     {
         if 64 <= j {
             return self;

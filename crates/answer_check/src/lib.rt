@@ -1,4 +1,5 @@
-//! Checks a configuration against a model, and tells values of expressions. Nothing here takes memory.
+//! Checks a configuration against a model, and tells values of expressions. Nothing here takes
+//! memory.
 #![tactic(auto)]
 
 pub mod codes;

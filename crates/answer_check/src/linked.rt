@@ -11,7 +11,8 @@ use crate::instances::links_at;
 use config_value::Configuration;
 use prod_model::Problem;
 
-/// The instances that a port links from some instance of a set. One pass over the links of the port there.
+/// The instances that a port links from some instance of a set. One pass over the links of the port
+/// there.
 pub(crate) fn linked_from(
     problem: &Problem,
     c: &Configuration,
@@ -21,7 +22,9 @@ pub(crate) fn linked_from(
     requires valid { IsValid problem.now }
     requires shaped { IsTrue (is_shaped problem.now c.now) }
     ensures { (j : ℕ) → is_member result j
-        ≡ list_any (λ i. is_member among i && list_any (λ k. k == j) (links_at_instance problem.now c.now port i)) (instance_numbers c.now) }
+        ≡ list_any (λ i. is_member among i
+        && list_any (λ k. k == j) (links_at_instance problem.now c.now port i))
+        (instance_numbers c.now) }
 {
     let mut linked = InstanceSet::empty();
     for i in 0..c.len() as u32 {
@@ -38,7 +41,8 @@ fn links_among<'a>(
     among: InstanceSet,
     i: u32,
 ) -> &'a [u32]
-    ensures { result.now ≡ (if is_member among i then links_at_instance problem.now c.now port i else []) }
+    ensures { result.now
+        ≡ (if is_member among i then links_at_instance problem.now c.now port i else []) }
 {
     if among.has(i) {
         links_at(problem, c, port, i)
@@ -53,7 +57,8 @@ fn with_links(set: InstanceSet, links: &[u32]) -> InstanceSet
     links.iter().fold(set, |set, j| set.with(*j))
 }
 
-/// The instances of a set from which a port links instances of another set alone. One pass over the links of the port there.
+/// The instances of a set from which a port links instances of another set alone. One pass over the
+/// links of the port there.
 pub(crate) fn linking_only(
     problem: &Problem,
     c: &Configuration,
@@ -64,7 +69,10 @@ pub(crate) fn linking_only(
     requires valid { IsValid problem.now }
     requires shaped { IsTrue (is_shaped problem.now c.now) }
     requires within { (i : ℕ) → IsTrue (is_member among i) → i < length c.now }
-    ensures { (i : ℕ) → is_member result i ≡ (is_member among i && list_all (is_member into) (links_at_instance problem.now c.now port i)) }
+    ensures { (i : ℕ)
+        → is_member result i
+        ≡ (is_member among i
+        && list_all (is_member into) (links_at_instance problem.now c.now port i)) }
 {
     let mut found = InstanceSet::empty();
     for i in 0..c.len() as u32 {
@@ -75,7 +83,8 @@ pub(crate) fn linking_only(
     found
 }
 
-/// Whether the first set has an instance, and a port links from there instances of the second set alone.
+/// Whether the first set has an instance, and a port links from there instances of the second set
+/// alone.
 fn links_only(
     problem: &Problem,
     c: &Configuration,
@@ -84,7 +93,9 @@ fn links_only(
     into: InstanceSet,
     i: u32,
 ) -> bool
-    ensures { result ≡ (is_member among i && list_all (is_member into) (links_at_instance problem.now c.now port i)) }
+    ensures { result
+        ≡ (is_member among i
+        && list_all (is_member into) (links_at_instance problem.now c.now port i)) }
 {
     among.has(i) && are_in(links_at(problem, c, port, i), into)
 }

@@ -1,4 +1,5 @@
-//! Links that lead to no instance, links off their targets, and numbers of links that a port doesn't allow.
+//! Links that lead to no instance, links off their targets, and numbers of links that a port
+//! doesn't allow.
 ghost use Rattle.std.specs.Prelude.{◌≡◌, ◌<◌, ◌≤◌, length, slice_get, IsTrue, nat_le, not, position};
 ghost use Rattle.std.specs.List.{list_any, zip};
 ghost use Rattle.prod_model.specs.Taxonomy.{ports_at};
@@ -54,7 +55,8 @@ fn place_of_broken(
     test: PortTest,
     instance: &Instance,
 ) -> Option<usize>
-    ensures { result ≡ position (λ pair. breaks_port problem.now c.now test pair.0 pair.1) (zip (ports_at problem.now instance.now.kind) instance.now.links) }
+    ensures { result ≡ position (λ pair. breaks_port problem.now c.now test pair.0 pair.1)
+        (zip (ports_at problem.now instance.now.kind) instance.now.links) }
 {
     let ports = ports_of(problem, instance.kind);
     ports.iter().zip(instance.links.as_slice()).position(|(port, links)| breaks_port(

@@ -11,8 +11,8 @@ use crate::sums::{count_links, number_under, sum_links, sum_under};
 use config_value::Configuration;
 use prod_model::{Expr, Problem};
 
-/// The number that an expression is at an instance under a type where it has bounds, and 0 where it is a truth. Each part
-/// is computed once, and takes a pass over instances or links at most.
+/// The number that an expression is at an instance under a type where it has bounds, and 0 where it
+/// is a truth. Each part is computed once, and takes a pass over instances or links at most.
 #[cycle(numbers)]
 pub(crate) fn number_at(problem: &Problem, c: &Configuration, i: u32, e: &Expr) -> i64
     requires valid { IsValid problem.now }
@@ -35,7 +35,8 @@ pub(crate) fn number_at(problem: &Problem, c: &Configuration, i: u32, e: &Expr) 
     }
 }
 
-/// The sum of all arguments. It is kept in 128 bits, which no slice of numbers of 64 bits can leave.
+/// The sum of all arguments. It is kept in 128 bits, which no slice of numbers of 64 bits can
+/// leave.
 #[cycle(numbers)]
 fn sum_of_all(problem: &Problem, c: &Configuration, i: u32, args: &[Expr]) -> i128
     requires valid { IsValid problem.now }

@@ -69,8 +69,8 @@ impl Seen {
     }
 }
 
-/// The first instance that more than one part link leads to, or any to instance 0. One pass over all links, and one over the
-/// instances.
+/// The first instance that more than one part link leads to, or any to instance 0. One pass over
+/// all links, and one over the instances.
 pub(crate) fn shared_part(problem: &Problem, c: &Configuration) -> Option<Place>
     requires { IsTrue (is_spelled problem.now c.now) }
     ensures { FindsPlace (BreaksAt problem.now c.now shared_part_code) result }

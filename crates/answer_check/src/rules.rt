@@ -17,9 +17,10 @@ use crate::types::is_under;
 use config_value::Configuration;
 use prod_model::{Order, Problem, Rule};
 
-/// The first rule that is false at an instance under its type: the first such instance, and the first such rule there. Each
-/// part of a rule is gone over once, for all instances at which it is asked. There a number takes a step for each instance
-/// or link that it counts, and a truth about linked instances a step for each link.
+/// The first rule that is false at an instance under its type: the first such instance, and the
+/// first such rule there. Each part of a rule is gone over once, for all instances at which it is
+/// asked. There a number takes a step for each instance or link that it counts, and a truth about
+/// linked instances a step for each link.
 pub(crate) fn false_rule(problem: &Problem, c: &Configuration) -> Option<Place>
     requires valid { IsValid problem.now }
     requires shaped { IsTrue (is_shaped problem.now c.now) }
@@ -48,7 +49,8 @@ fn false_below(problem: &Problem, c: &Configuration, rule: &Rule, below: u32) ->
     requires within { below ≤ length c.now }
     requires faultless { IsTrue (is_truth_at problem.now rule.now.kind rule.now.holds) }
     ensures { (i : ℕ) → is_member result i
-        ≡ ((nat_lt i below && is_under_of problem.now c.now rule.now.kind i) && not (is_true_at problem.now c.now i rule.now.holds)) }
+        ≡ ((nat_lt i below && is_under_of problem.now c.now rule.now.kind i)
+        && not (is_true_at problem.now c.now i rule.now.holds)) }
 {
     let under = under_below(problem, c, rule.kind, below);
     under.without(true_among(problem, c, under, &rule.holds))
@@ -58,7 +60,8 @@ fn false_below(problem: &Problem, c: &Configuration, rule: &Rule, below: u32) ->
 fn under_below(problem: &Problem, c: &Configuration, kind: u32, below: u32) -> InstanceSet
     requires within { below ≤ length c.now }
     requires few { length c.now ≤ 64 }
-    ensures { (i : ℕ) → is_member result i ≡ (nat_lt i below && is_under_of problem.now c.now kind i) }
+    ensures { (i : ℕ)
+        → is_member result i ≡ (nat_lt i below && is_under_of problem.now c.now kind i) }
 {
     let mut under = InstanceSet::empty();
     for i in 0..below {

@@ -14,7 +14,8 @@ use crate::place::Place;
 use config_value::Configuration;
 use prod_model::Problem;
 
-/// Whether there are more instances than the model allows. The first one too many stands for them. One comparison.
+/// Whether there are more instances than the model allows. The first one too many stands for them.
+/// One comparison.
 pub(crate) fn too_many(problem: &Problem, c: &Configuration) -> Option<Place>
     ensures { FindsPlace (BreaksAt problem.now c.now too_many_code) result }
 {
@@ -41,8 +42,8 @@ pub(crate) fn other_root(problem: &Problem, c: &Configuration) -> Option<Place>
     })
 }
 
-/// The first entry of `bounds` that doesn't allow as many instances as are under its type. One pass over the instances for
-/// each entry, of which there are at most 128.
+/// The first entry of `bounds` that doesn't allow as many instances as are under its type. One pass
+/// over the instances for each entry, of which there are at most 128.
 pub(crate) fn bad_count(problem: &Problem, c: &Configuration) -> Option<Place>
     requires valid { IsValid problem.now }
     requires spelled { IsTrue (is_spelled problem.now c.now) }
@@ -57,7 +58,8 @@ pub(crate) fn bad_count(problem: &Problem, c: &Configuration) -> Option<Place>
 
 fn place_of_bad_count(problem: &Problem, c: &Configuration) -> Option<usize>
     requires { length c.now ≤ 64 }
-    ensures { result ≡ position (λ n. not (is_between_of n.low n.high (count_by (under problem.now n.kind) c.now))) problem.now.bounds }
+    ensures { result ≡ position (λ n. not (is_between_of n.low n.high
+        (count_by (under problem.now n.kind) c.now))) problem.now.bounds }
 {
     let bounds = problem.model().bounds.as_slice();
     bounds.iter().position(|n| !is_between(n.low, n.high, count_under(problem, c, n.kind)))

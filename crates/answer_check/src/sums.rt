@@ -1,4 +1,5 @@
-//! Sums and counts over links and instances. They are kept in 128 bits, which no slice of numbers of 64 bits can leave.
+//! Sums and counts over links and instances. They are kept in 128 bits, which no slice of numbers
+//! of 64 bits can leave.
 ghost use Rattle.std.specs.Prelude.{◌≡◌, ◌≤◌, length, map, pos, if◌then◌else◌};
 ghost use Rattle.std.specs.List.{count_by, filter};
 ghost use Rattle.config_value.specs.Value.{is_under, under, value_of as value_of_at, value_at_instance as value_at_instance_of, sum_of};
@@ -41,7 +42,8 @@ pub(crate) fn sum_links(problem: &Problem, c: &Configuration, links: &[u32], id:
 /// The sum of an attribute over the instances under a type.
 pub(crate) fn sum_under(problem: &Problem, c: &Configuration, kind: u32, id: u32) -> i128
     requires { length c.now ≤ 64 }
-    ensures { result ≡ sum_of (map (λ x. value_of_at problem.now x id) (filter (under problem.now kind) c.now)) }
+    ensures { result
+        ≡ sum_of (map (λ x. value_of_at problem.now x id) (filter (under problem.now kind) c.now)) }
 {
     let mut sum = 0;
     for i in 0..c.len() as u32 {
@@ -52,7 +54,8 @@ pub(crate) fn sum_under(problem: &Problem, c: &Configuration, kind: u32, id: u32
 
 /// The value of an attribute at an instance under a type, and 0 at any other.
 fn value_under(problem: &Problem, instance: &Instance, kind: u32, id: u32) -> i64
-    ensures { result ≡ (if under problem.now kind instance.now then value_of_at problem.now instance.now id else pos 0) }
+    ensures { result ≡ (if under problem.now kind instance.now
+        then value_of_at problem.now instance.now id else pos 0) }
 {
     if is_kind_under(problem, instance.kind, kind) {
         value_of(problem, instance, id)

@@ -1,11 +1,12 @@
-//! Where truths hold: of a set of instances, those at which an expression is true. A truth about linked instances asks for
-//! its part at all of them together, so that no instance is asked twice for one part.
+//! Where truths hold: of a set of instances, those at which an expression is true. A truth about
+//! linked instances asks for its part at all of them together, so that no instance is asked twice
+//! for one part.
 ghost use Rattle.std.specs.Prelude.{◌≡◌, ℕ, ◌&&◌, not, IsTrue};
 ghost use Rattle.std.specs.List.{list_all, list_any};
 ghost use Rattle.prod_model.specs.declared.expr.Expr.TheViews.{out-Expr};
 ghost use Rattle.prod_model.specs.Valid.{IsValid};
 ghost use Rattle.config_value.specs.Shaped.{is_shaped};
-ghost use Rattle.config_value.specs.Value.{is_true_at, holds as holds_of};
+ghost use Rattle.config_value.specs.Value.{is_true_at};
 ghost use Rattle.answer_check.specs.steps.Evaluable.{simple_truth};
 ghost use Rattle.answer_check.specs.Faultless.{HasBoundsAt};
 ghost use Rattle.answer_check.specs.steps.InstanceSets.{is_member, HasBoundsAmong, EachHasBoundsAmong, AreTrueAmong};
@@ -14,11 +15,12 @@ use crate::instance_set::InstanceSet;
 use crate::instances::{is_instance_under, value_at_instance};
 use crate::linked::{linked_from, linking_only};
 use crate::numbers::number_at;
-use config_value::Configuration;
-use prod_model::{Expr, Problem, Relation};
+use config_value::{Configuration, holds};
+use prod_model::{Expr, Problem};
 
-/// Of a set of instances under types where an expression has bounds, those at which it is true; none where it is a number.
-/// Each part of the expression is gone over once. A truth about linked instances takes a step for each link.
+/// Of a set of instances under types where an expression has bounds, those at which it is true;
+/// none where it is a number. Each part of the expression is gone over once. A truth about linked
+/// instances takes a step for each link.
 #[cycle(truths)]
 pub(crate) fn true_among(
     problem: &Problem,
@@ -60,7 +62,9 @@ fn all_among(problem: &Problem, c: &Configuration, among: InstanceSet, args: &[E
     requires valid { IsValid problem.now }
     requires shaped { IsTrue (is_shaped problem.now c.now) }
     requires bounded { EachHasBoundsAmong problem.now c.now among args.now }
-    ensures { (i : ℕ) → is_member result i ≡ (is_member among i && list_all (is_true_at problem.now c.now i) args.now) }
+    ensures { (i : ℕ)
+        → is_member result i
+        ≡ (is_member among i && list_all (is_true_at problem.now c.now i) args.now) }
 {
     let mut left = among;
     for e in args {
@@ -80,7 +84,9 @@ fn none_among(
     requires valid { IsValid problem.now }
     requires shaped { IsTrue (is_shaped problem.now c.now) }
     requires bounded { EachHasBoundsAmong problem.now c.now among args.now }
-    ensures { (i : ℕ) → is_member result i ≡ (is_member among i && not (list_any (is_true_at problem.now c.now i) args.now)) }
+    ensures { (i : ℕ)
+        → is_member result i
+        ≡ (is_member among i && not (list_any (is_true_at problem.now c.now i) args.now)) }
 {
     let mut left = among;
     for e in args {
@@ -94,7 +100,9 @@ fn simple_among(problem: &Problem, c: &Configuration, among: InstanceSet, e: &Ex
     requires valid { IsValid problem.now }
     requires shaped { IsTrue (is_shaped problem.now c.now) }
     requires bounded { HasBoundsAmong problem.now c.now among e.now }
-    ensures { (i : ℕ) → is_member result i ≡ (is_member among i && simple_truth problem.now c.now i (out-Expr e.now)) }
+    ensures { (i : ℕ)
+        → is_member result i
+        ≡ (is_member among i && simple_truth problem.now c.now i (out-Expr e.now)) }
 {
     let mut found = InstanceSet::empty();
     for i in 0..c.len() as u32 {
@@ -121,18 +129,5 @@ fn is_simply_true(problem: &Problem, c: &Configuration, i: u32, e: &Expr) -> boo
         Expr::Is(a, word) => value_at_instance(problem, c, *a, i) == i64::from(*word),
         Expr::Kind(kind) => is_instance_under(problem, c, *kind, i),
         _ => false,
-    }
-}
-
-fn holds(relation: Relation, a: i64, b: i64) -> bool
-    ensures { result ≡ holds_of relation a b }
-{
-    match relation {
-        Relation::Less => a < b,
-        Relation::AtMost => a <= b,
-        Relation::Equal => a == b,
-        Relation::Differs => a != b,
-        Relation::AtLeast => a >= b,
-        Relation::Greater => a > b,
     }
 }

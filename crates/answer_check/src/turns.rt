@@ -1,4 +1,5 @@
-//! Instances that are out of turn: a lower one doesn't mention them first, or not after the one before them.
+//! Instances that are out of turn: a lower one doesn't mention them first, or not after the one
+//! before them.
 ghost use Rattle.std.specs.Prelude.{◌≡◌, ◌<◌, ◌≤◌, ◌==◌, IsTrue, length};
 ghost use Rattle.std.specs.Int.{bit_at};
 ghost use Rattle.std.specs.List.{fold};
@@ -14,9 +15,9 @@ use prod_model::Problem;
 
 /// Which instances are mentioned, and which of them in turn.
 ///
-/// The first link to an instance settles its turn: later ones change nothing. By then the instance before it has been
-/// mentioned earlier, or is mentioned later or never. So one pass settles all, and an instance may be in turn after others
-/// that are not.
+/// The first link to an instance settles its turn: later ones change nothing. By then the instance
+/// before it has been mentioned earlier, or is mentioned later or never. So one pass settles all,
+/// and an instance may be in turn after others that are not.
 #[derive(Clone, Copy)]
 pub(crate) struct Turns {
     mentioned: u64,

@@ -1,4 +1,5 @@
-//! What the types of a problem are and have, for any numbers. A number that is no type is under none, and has nothing.
+//! What the types of a problem are and have, for any numbers. A number that is no type is under
+//! none, and has nothing.
 ghost use Rattle.std.specs.Prelude.{◌≡◌};
 ghost use Rattle.std.specs.Option.{option_copied};
 ghost use Rattle.prod_model.specs.Forest.{is_a};

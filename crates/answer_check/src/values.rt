@@ -17,8 +17,9 @@ use crate::types::attributes_of;
 use config_value::Configuration;
 use prod_model::{AttrAt, Domain, Name, Problem};
 
-/// The first value that is not in its attribute's domain. One pass over all values; at each one that stands for a word, a
-/// walk along the line of its instance's type finds the words of the first declaration.
+/// The first value that is not in its attribute's domain. One pass over all values; at each one
+/// that stands for a word, a walk along the line of its instance's type finds the words of the
+/// first declaration.
 pub(crate) fn bad_value(problem: &Problem, c: &Configuration) -> Option<Place>
     requires valid { IsValid problem.now }
     requires spelled { IsTrue (is_spelled problem.now c.now) }

@@ -3,5 +3,9 @@ pub mod Tests
 pub mod Ranges
 pub mod Steps
 pub mod Lists
+pub mod Finding
+pub mod Pieces
+pub mod Triples
+pub mod Counts
 pub mod Masks64
 pub mod Masks128

@@ -1,7 +1,7 @@
 -- Numbers in order.
-use Rattle.std.proofs.Common.{◌≡◌, ℕ, zero, suc, ◌<◌, ◌+◌, Bool, true, ◌∷◌, ◌++◌, refl, sym, ap, ◌∙◌, Some, add-zero, arith}
+use Rattle.std.proofs.Common.{◌≡◌, ℕ, zero, suc, ◌<◌, ◌≤◌, ◌+◌, Bool, true, List, [], ◌∷◌, ◌++◌, refl, sym, ap, ◌∙◌, Some, add-zero, arith}
 use Rattle.std.proofs.lemmas.Option.{same_Some, none-some}
-use Rattle.std.specs.List.{list_all, range_with_len}
+use Rattle.std.specs.List.{enumerate_from, list_all, range_with_len}
 use Rattle.base_laws.specs.Places.{IsAt}
 
 -- at each place below n, counted from a, stands the sum of a and the place
@@ -15,6 +15,12 @@ pub range_with_len_lt : (a n k j : ℕ) → IsAt (range_with_len a n) k j → j 
 range_with_len_lt a zero k j e = absurd (none-some j e)
 range_with_len_lt a (suc n) zero j e = omega (arith, same_Some a j e)
 range_with_len_lt a (suc n) (suc k) j e = omega (arith, range_with_len_lt (a + 1) n k j e)
+
+-- and none is below a
+pub range_with_len_from : (a n k j : ℕ) → IsAt (range_with_len a n) k j → a ≤ j
+range_with_len_from a zero k j e = absurd (none-some j e)
+range_with_len_from a (suc n) zero j e = omega (arith, same_Some a j e)
+range_with_len_from a (suc n) (suc k) j e = omega (arith, range_with_len_from (a + 1) n k j e)
 
 -- numbers in order, parted at one of them
 pub range_split : (a k r : ℕ)
@@ -34,3 +40,18 @@ list_all_below p a (suc n) zero all within = let e : a + 0 ≡ a = omega arith i
 list_all_below p a (suc n) (suc k) all within =
     let e : a + 1 + k ≡ a + suc k = omega arith in
     rw (← e) (list_all_below p (a + 1) n k (grind (arith)) (omega arith))
+
+-- an element under its number stands there in the numbered list
+pub at_enumerate : {A : Type 0} (a : ℕ) (xs : List A) (k : ℕ) (x : A) → IsAt xs k x → IsAt (enumerate_from a xs) k (a + k, x)
+at_enumerate a [] k x there = absurd (none-some x there)
+at_enumerate a (y ∷ xs) zero x there = let e : a + 0 ≡ a = omega arith in rw e (ap (λ z. Some (a, z)) (same_Some y x there))
+at_enumerate a (y ∷ xs) (suc k) x there =
+    let e : a + 1 + k ≡ a + suc k = omega arith in at_enumerate (a + 1) xs k x there ∙ ap (λ j. Some (j, x)) e
+
+-- what stands in the numbered list has the number of its place
+pub enumerate_at : {A : Type 0} (a : ℕ) (xs : List A) (k : ℕ) (e : ℕ × A) → IsAt (enumerate_from a xs) k e → (e.0 ≡ a + k) × IsAt xs k e.1
+enumerate_at a [] k e there = absurd (none-some e there)
+enumerate_at a (y ∷ xs) zero e there =
+    let same = same_Some (a, y) e there in (ap (λ d. d.0) (sym same) ∙ sym (add-zero a), ap (λ d. Some d.1) same)
+enumerate_at a (y ∷ xs) (suc k) e there =
+    let rest = enumerate_at (a + 1) xs k e there in (let first = rest.0 in omega arith, rest.1)

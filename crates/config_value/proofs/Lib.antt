@@ -3,6 +3,10 @@ pub mod ShapedParts
 pub mod KeyLaws
 pub mod RankLaws
 pub mod Places
+pub mod LinkTriples
+pub mod PartLinks
+pub mod FirstMentions
+pub mod NumberedSentences
 pub mod ShapedSentences
 pub mod TurnSteps
 pub mod Mention

@@ -15,10 +15,14 @@ use Rattle.prod_model.specs.Limits.{is_between}
 use Rattle.prod_model.specs.Taxonomy.{first_words, attributes_at, ports_at}
 use Rattle.config_value.specs.declared.configuration.Instance.{Instance}
 use Rattle.config_value.specs.Value.{under, is_under}
-use Rattle.config_value.specs.Shaped.{is_in, has_value, has_links_of, has_leaf_types, has_root, has_size, has_values, has_links, has_single_parts, has_counts, instance_numbers}
-use Rattle.config_value.specs.ShapedSentences.{IsInstanceUnder, IsValueOf, AreLinksOf, HasShape, ShapedSentences, parts_into}
+use Rattle.config_value.specs.Shaped.{is_in, has_value, has_links_of, has_leaf_types, has_root, has_size, has_values, has_links, has_single_parts, has_counts, instance_numbers, part_links}
+use Rattle.config_value.specs.ShapedSentences.{IsInstanceUnder, IsValueOf, AreLinksOf, HasShape, ShapedSentences}
 use Rattle.base_laws.proofs.Ranges.{range_with_len_lt, slice_get_range_with_len}
 use Rattle.base_laws.proofs.Tests.{list_all_at, list_all_from, list_any_at, list_any_from, option_map_or_at, option_map_or_from, pointwise_at, pointwise_from}
+use Rattle.base_laws.proofs.Counts.{counted_once, once_counted, counted_nowhere, nowhere_counted}
+use Rattle.config_value.specs.Links.{LinkPlace, IsPartLink}
+use Rattle.config_value.proofs.PartLinks.{parts_once, once_parts, parts_nowhere, nowhere_parts}
+use Rattle.std.proofs.lemmas.Option.{slice_get_within}
 use Rattle.config_value.proofs.Places
 use Rattle.config_value.proofs.ShapedParts.{PassesEach, passes_each, is_shaped_from, is_built, is_built_at, is_built_from}
 
@@ -103,26 +107,30 @@ single_from n j h whole = by (j == 0) (λ e. whole (eqb-true j 0 e))
     by true w = le-leb n 0 (omega (arith, w refl))
     by false w = le-leb n 1 h
 
+-- how many links of part ports lead to the instance of that number
+parts_into : Model → List Instance → ℕ → ℕ
+parts_into m c j = count_by (λ k. k == j) (part_links m c)
+
 -- the test of the links into one instance
 has_single_part : Model → List Instance → ℕ → Bool
 has_single_part m c j = nat_le (parts_into m c j) (if j == 0 then 0 else 1)
 
 -- what `has_single_parts` says of each instance's number
 single_part_at : (m : Model) (c : List Instance) → IsTrue (has_single_parts m c) → (j : ℕ) → j < length c → IsTrue (has_single_part m c j)
-unfolding has_single_parts has_single_part
+unfolding has_single_parts has_single_part parts_into
 single_part_at m c h j within =
     list_all_at (has_single_part m c) (instance_numbers c) h j j (slice_get_range_with_len 0 (length c) j within ∙ ap Some (zero-add j))
 
 -- `has_single_parts` says no more than that
 single_parts_from : (m : Model) (c : List Instance) → ((j : ℕ) → j < length c → IsTrue (has_single_part m c j)) → IsTrue (has_single_parts m c)
-unfolding has_single_parts has_single_part
+unfolding has_single_parts has_single_part parts_into
 single_parts_from m c h = list_all_from (has_single_part m c) (instance_numbers c) (λ k j e. h j (rw (← zero-add (length c)) (range_with_len_lt 0 (length c) k j e)))
 
 -- ---- the whole
 
 -- a configuration that passes each test has the shape
 has_shape : (m : Model) (c : List Instance) → PassesEach m c → HasShape m c
-unfolding has_leaf_types has_root has_size has_values has_links has_counts has_single_part
+unfolding has_leaf_types has_root has_size has_values has_links has_counts has_single_part parts_into
 has_shape m c p =
     let size = Places.is_between_at 1 m.instances (length c) p.size in
     record {
@@ -135,18 +143,27 @@ has_shape m c p =
       links = λ i k x q links e f g. has_links_of_at m c q links
           (pointwise_at (has_links_of m c) (ports_at m x.kind) x.links
           (list_all_at (λ x. pointwise (has_links_of m c) (ports_at m x.kind) x.links) c p.links i x e) k q links f g);
-      parts = λ j within. single_at (parts_into m c j) j (single_part_at m c p.single_parts j within);
-      whole = zero_at (parts_into m c 0) (single_part_at m c p.single_parts 0 size.0);
+      parts = λ j a b first second. once_parts m c j
+          (once_counted (λ k. k == j) (part_links m c) (single_at (parts_into m c j) j (single_part_at m c p.single_parts j (there j a first)))) a b first second;
+      whole = nowhere_parts m c 0 (nowhere_counted (λ k. k == 0) (part_links m c) (zero_at (parts_into m c 0) (single_part_at m c p.single_parts 0 size.0)));
       counts = λ k b e. Places.is_between_at b.low b.high (count_by (under m b.kind) c)
           (list_all_at (λ b. is_between b.low b.high (count_by (under m b.kind) c)) m.bounds p.counts k b e);
     }
   where
+    -- a part link leads to an instance
+    there : (j : ℕ) (a : LinkPlace) → IsPartLink m c j a → j < length c
+    there j a is =
+        let tests = pointwise_at (has_links_of m c) (ports_at m is.link.instance.kind) is.link.instance.links
+        (list_all_at (λ x. pointwise (has_links_of m c) (ports_at m x.kind) x.links) c p.links a.from is.link.instance is.link.stands) a.port is.port is.link.links is.declared is.link.linked in
+        let target = (has_links_of_at m c is.port is.link.links tests).on_target a.place j is.link.leads in
+        slice_get_within c j target.instance target.there
+
     zero_at : (n : ℕ) → IsTrue (nat_le n 0) → n ≡ 0
     zero_at n h = omega (arith, leb-true n 0 h)
 
 -- a configuration of the shape passes each test
 passes_from : (m : Model) (c : List Instance) → HasShape m c → PassesEach m c
-unfolding has_leaf_types has_root has_size has_values has_links has_counts has_single_part
+unfolding has_leaf_types has_root has_size has_values has_links has_counts has_single_part parts_into
 passes_from m c s = record {
   leaf_types = list_all_from (is_built m) c (λ i x e. is_built_from m x (s.built i x e));
   root = under_from m c m.root 0 s.root;
@@ -158,7 +175,8 @@ passes_from m c s = record {
       pointwise_from (has_links_of m c) (ports_at m x.kind) x.links (sym (s.built i x e).each_port) (λ k q links f g.
       has_links_of_from m c q links (s.links i k x q links e f g)));
   single_parts = single_parts_from m c (λ j within.
-      single_from (parts_into m c j) j (s.parts j within) (λ first. ap (parts_into m c) first ∙ s.whole));
+      single_from (parts_into m c j) j (counted_once (λ k. k == j) (part_links m c) (parts_once m c j (s.parts j)))
+      (λ first. ap (parts_into m c) first ∙ counted_nowhere (λ k. k == 0) (part_links m c) (parts_nowhere m c 0 s.whole)));
   counts = list_all_from (λ b. is_between b.low b.high (count_by (under m b.kind) c)) m.bounds (λ k b e.
       Places.is_between_from b.low b.high (count_by (under m b.kind) c) (s.counts k b e));
 }

@@ -21,7 +21,8 @@ IsWithinBounds (bounds.Number low high) (found.Truth b) = ⊥
 IsWithinBounds bounds.Truth (found.Number n) = ⊥
 IsWithinBounds bounds.Truth (found.Truth b) = Unit {0}
 
--- In a shaped configuration, at each instance under a type, the value of an expression lies within its bounds at the type.
+-- In a shaped configuration, at each instance under a type, the value of an expression lies within
+-- its bounds at the type.
 abbrev pub BoundsHold : Type 0
 BoundsHold = (m : Model) (c : List Instance) (e : Expr) (i t : ℕ) (x : Instance) (b : Bounds)
     → IsDeclared m → IsTrue (is_shaped m c) → slice_get c i ≡ Some x → IsTrue (is_a m x.kind t)
@@ -29,4 +30,6 @@ BoundsHold = (m : Model) (c : List Instance) (e : Expr) (i t : ℕ) (x : Instanc
 
 -- A shaped configuration of a valid model can be spelled.
 abbrev pub ShapedIsSpelled : Type 0
-ShapedIsSpelled = (m : Model) (c : List Instance) → IsDeclared m → IsTrue (is_shaped m c) → IsTrue (is_spelled m c)
+ShapedIsSpelled =
+    (m : Model) (c : List Instance) → IsDeclared m → IsTrue (is_shaped m c)
+    → IsTrue (is_spelled m c)

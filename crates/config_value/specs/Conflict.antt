@@ -1,4 +1,5 @@
--- Conflicts of an order's requests, and the preferred one (Junker 2004). A set of requests is a truth for each of them.
+-- Conflicts of an order's requests, and the preferred one (Junker 2004). A set of requests is a
+-- truth for each of them.
 use Rattle.std.specs.Prelude.{◌≡◌, ◌≢◌, ℕ, suc, Bool, true, false, List, length, drop, slice_get, Some}
 use Rattle.prod_model.specs.declared.model.Model.{Model}
 use Rattle.prod_model.specs.declared.model.Order.{Order}
@@ -25,5 +26,6 @@ IsPreferredConflict m o = IsFirst (IsConflict m o) IsAntilexSmaller
 -- all requests of the first set are in the second one, and it has others
 pub record IsProperPart (part whole : List Bool) : Type 0 where
   pub each_request : length part ≡ length whole
-  pub within : (request : ℕ) → slice_get part request ≡ Some true → slice_get whole request ≡ Some true
+  pub within : (request : ℕ) → slice_get part request ≡ Some true
+      → slice_get whole request ≡ Some true
   pub others : part ≢ whole

@@ -7,6 +7,8 @@ pub mod Rank
 pub mod Preferred
 pub mod Conflict
 pub mod Laws
+pub mod Links
 pub mod ShapedSentences
+pub mod NumberedSentences
 pub mod BoundsHold
 pub mod steps

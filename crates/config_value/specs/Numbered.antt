@@ -1,4 +1,5 @@
--- How the instances of a configuration are numbered: in the order in which they are first mentioned.
+-- How the instances of a configuration are numbered: in the order in which they are first
+-- mentioned.
 use Rattle.std.specs.Prelude.{ℕ, ◌-◌, Bool, false, ◌&&◌, ◌||◌, ◌==◌, nat_lt, List, map, length}
 use Rattle.std.specs.declared.option.Option.{Option}
 use Rattle.std.specs.Option.{option_map, option_map_or}
@@ -12,7 +13,9 @@ pub record Link : Type 0 where
 
 -- all links, through the instances in order, their ports in order, and the links of a port in order
 abbrev pub all_links : List Instance → List Link
-all_links c = flat_map (λ e. flat_map (map (λ j. record { from = e.0; to = j })) e.1.links) (enumerate_from 0 c)
+all_links c =
+    flat_map (λ e. flat_map (map (λ j. record { from = e.0; to = j })) e.1.links)
+    (enumerate_from 0 c)
 
 -- the first mention of an instance: the place of the first link to it
 abbrev pub mention : List Instance → ℕ → Option ℕ
@@ -28,9 +31,11 @@ is_mentioned_lower c j = option_map_or (λ i. nat_lt i j) (mentioned_by c j) fal
 
 -- the first mention of one instance is before that of another
 abbrev pub is_mentioned_before : List Instance → ℕ → ℕ → Bool
-is_mentioned_before c i j = option_map_or (λ p. option_map_or (λ q. nat_lt p q) (mention c j) false) (mention c i) false
+is_mentioned_before c i j =
+    option_map_or (λ p. option_map_or (λ q. nat_lt p q) (mention c j) false) (mention c i) false
 
--- the instance is first mentioned by a lower one, and, but for instance 1, after the instance numbered one less
+-- the instance is first mentioned by a lower one, and, but for instance 1, after the instance
+-- numbered one less
 abbrev pub is_in_turn : List Instance → ℕ → Bool
 is_in_turn c j = is_mentioned_lower c j && ((j == 1) || is_mentioned_before c (j - 1) j)
 

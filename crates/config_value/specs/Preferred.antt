@@ -7,6 +7,7 @@ use Rattle.config_value.specs.declared.configuration.Instance.{Instance}
 use Rattle.config_value.specs.Satisfies.{IsCandidate}
 use Rattle.config_value.specs.Rank.{RanksBefore}
 
--- of the configurations that satisfy the model and meet the kept requests, the one before which none ranks
+-- of the configurations that satisfy the model and meet the kept requests, the one before which
+-- none ranks
 abbrev pub IsPreferred : Model → Order → List Bool → List Instance → Type 0
 IsPreferred m o keep = IsFirst (IsCandidate m o keep) (RanksBefore m o)

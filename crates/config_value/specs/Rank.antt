@@ -27,14 +27,17 @@ key_order c d = slice_cmp int_cmp (key c) (key d)
 
 -- the value of each criterion at instance 0, in order, and negated where it is maximised
 unfoldable pub rank : Model → Order → List Instance → List ℤ
-rank m o c = map (λ r. let n = number_at m c 0 r.value in if r.maximise then neg_ℤ n else n) o.criteria
+rank m o c =
+    map (λ r. let n = number_at m c 0 r.value in if r.maximise then neg_ℤ n else n) o.criteria
 
 -- the first criterion that tells the two apart decides, and else their keys
 unfoldable pub rank_order : Model → Order → List Instance → List Instance → Ordering
 rank_order m o c d = ordering_then (slice_cmp int_cmp (rank m o c) (rank m o d)) (key_order c d)
 
+-- the first is less by its criteria and then by its key
 abbrev pub ranks_before : Model → Order → List Instance → List Instance → Bool
 ranks_before m o c d = is_lt (rank_order m o c d)
 
+-- the same, as a fact
 abbrev pub RanksBefore : Model → Order → List Instance → List Instance → Type 0
 RanksBefore m o c d = IsTrue (ranks_before m o c d)

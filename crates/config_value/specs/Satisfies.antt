@@ -12,8 +12,11 @@ use Rattle.config_value.specs.Numbered.{is_numbered}
 
 -- Each rule is true at each instance under its type.
 unfoldable pub follows_rules : Model → List Instance → Bool
-follows_rules m c = list_all (λ r. list_all (λ e. not (under m r.kind e.1) || is_true_at m c e.0 r.holds) (enumerate_from 0 c)) m.rules
+follows_rules m c =
+    list_all (λ r. list_all (λ e. not (under m r.kind e.1) || is_true_at m c e.0 r.holds)
+    (enumerate_from 0 c)) m.rules
 
+-- It is shaped, its instances are numbered in order, and it follows all rules.
 unfoldable pub satisfies : Model → List Instance → Bool
 satisfies m c = is_shaped m c && is_numbered c && follows_rules m c
 
@@ -25,6 +28,7 @@ meets m c r = is_true_at m c 0 r.holds
 unfoldable pub meets_kept : Model → Order → List Bool → List Instance → Bool
 meets_kept m o keep c = pointwise (λ kept r. not kept || meets m c r) keep o.requests
 
+-- the set of all requests
 abbrev pub all_kept : Order → List Bool
 all_kept o = map (λ r. true) o.requests
 

@@ -20,25 +20,30 @@ use Rattle.config_value.specs.Value.{under, is_under}
 abbrev pub instance_numbers : List Instance → List ℕ
 instance_numbers c = range_with_len 0 (length c)
 
--- Whether a value is one of a domain. The value of a word is its place among the words of the attribute's first declaration.
+-- Whether a value is one of a domain. The value of a word is its place among the words of the
+-- attribute's first declaration.
 abbrev pub is_in : Domain → List (List ℕ) → ℤ → Bool
 is_in (Range low high) first v = int_le low v && int_le v high
-is_in (Words words) first (pos n) = option_map_or (λ w. list_any (same_text w) words) (slice_get first n) false
+is_in (Words words) first (pos n) =
+    option_map_or (λ w. list_any (same_text w) words) (slice_get first n) false
 is_in (Words words) first (negsuc n) = false
 
 -- a value is in the attribute's domain at the type
 abbrev pub has_value : Model → AttrAt → ℤ → Bool
 has_value m a v = is_in a.domain (first_words m a.id) v
 
+-- each number is above the one before it
 abbrev pub ascends : List ℕ → Bool
 ascends [] = true
 ascends (n ∷ []) = true
 ascends (n ∷ k ∷ ks) = nat_lt n k && ascends (k ∷ ks)
 
--- Each instance is of a leaf type, with as many values and lists of links as the type has attributes and ports.
+-- Each instance is of a leaf type, with as many values and lists of links as the type has
+-- attributes and ports.
 unfoldable pub has_leaf_types : Model → List Instance → Bool
 has_leaf_types m c = list_all (λ x. is_leaf m x.kind
-    && (length x.values == length (attributes_at m x.kind)) && (length x.links == length (ports_at m x.kind))) c
+    && (length x.values == length (attributes_at m x.kind))
+    && (length x.links == length (ports_at m x.kind))) c
 
 -- Instance 0 is of a type under the root type.
 unfoldable pub has_root : Model → List Instance → Bool
@@ -54,27 +59,36 @@ has_values m c = list_all (λ x. pointwise (has_value m) (attributes_at m x.kind
 
 -- The links of a port ascend, lead to instances under its target, and are as many as it allows.
 abbrev pub has_links_of : Model → List Instance → PortAt → List ℕ → Bool
-has_links_of m c p links = ascends links && list_all (is_under m c p.target) links && is_between p.low p.high (length links)
+has_links_of m c p links =
+    ascends links && list_all (is_under m c p.target) links
+    && is_between p.low p.high (length links)
 
 -- This holds of the links of each port of each instance.
 unfoldable pub has_links : Model → List Instance → Bool
 has_links m c = list_all (λ x. pointwise (has_links_of m c) (ports_at m x.kind) x.links) c
 
+-- a port whose links are to parts
 abbrev pub is_part : PortAt → Bool
 is_part p = elim p.kind [ Part ↦ true | Shared ↦ false ]
 
 -- where the links of part ports lead, over all instances and their ports
 abbrev pub part_links : Model → List Instance → List ℕ
-part_links m c = flat_map (λ x. flat_map (λ pair. if is_part pair.0 then pair.1 else []) (zip (ports_at m x.kind) x.links)) c
+part_links m c =
+    flat_map (λ x. flat_map (λ pair. if is_part pair.0 then pair.1 else [])
+    (zip (ports_at m x.kind) x.links)) c
 
 -- An instance has at most one part link into it, and instance 0 has none.
 unfoldable pub has_single_parts : Model → List Instance → Bool
-has_single_parts m c = list_all (λ j. nat_le (count_by (λ k. k == j) (part_links m c)) (if j == 0 then 0 else 1)) (instance_numbers c)
+has_single_parts m c =
+    list_all
+    (λ j. nat_le (count_by (λ k. k == j) (part_links m c)) (if j == 0 then 0 else 1))
+    (instance_numbers c)
 
 -- For each entry of `bounds`, the number of instances under its type is within its pair.
 unfoldable pub has_counts : Model → List Instance → Bool
 has_counts m c = list_all (λ b. is_between b.low b.high (count_by (under m b.kind) c)) m.bounds
 
+-- It is shaped: all that a model asks, but for the numbering and the rules.
 unfoldable pub is_shaped : Model → List Instance → Bool
 is_shaped m c =
     has_leaf_types m c && has_root m c

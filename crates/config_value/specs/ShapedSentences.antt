@@ -12,7 +12,8 @@ use Rattle.prod_model.specs.Forest.{is_leaf}
 use Rattle.prod_model.specs.Taxonomy.{first_words, attributes_at, ports_at}
 use Rattle.config_value.specs.declared.configuration.Instance.{Instance}
 use Rattle.config_value.specs.Value.{under}
-use Rattle.config_value.specs.Shaped.{is_shaped, part_links}
+use Rattle.config_value.specs.Shaped.{is_shaped}
+use Rattle.config_value.specs.Links.{LinkPlace, IsPartLink}
 
 -- the number is the low one, the high one or between them
 abbrev pub IsBetween : ℕ → ℕ → ℕ → Type 0
@@ -38,7 +39,8 @@ abbrev pub IsValueOf : Domain → List (List ℕ) → ℤ → Type 0
 IsValueOf (Range low high) first v = (low ≤ℤ v) × (v ≤ℤ high)
 IsValueOf (Words words) first v = IsPlaceOfWord words first v
 
--- the instance is of a leaf type, and has a value for each attribute of the type and links for each port
+-- the instance is of a leaf type, and has a value for each attribute of the type and links for each
+-- port
 pub record IsBuilt (m : Model) (x : Instance) : Type 0 where
   pub leaf : IsTrue (is_leaf m x.kind)
   pub each_attribute : length x.values ≡ length (attributes_at m x.kind)
@@ -50,10 +52,6 @@ pub record AreLinksOf (m : Model) (c : List Instance) (p : PortAt) (links : List
   pub on_target : (k i : ℕ) → IsAt links k i → IsInstanceUnder m c p.target i
   pub number : IsBetween p.low p.high (length links)
 
--- how many links of part ports lead to the instance of that number
-abbrev pub parts_into : Model → List Instance → ℕ → ℕ
-parts_into m c j = count_by (λ k. k == j) (part_links m c)
-
 -- The shape of a configuration of the model. The line above a field says what it means.
 pub record HasShape (m : Model) (c : List Instance) : Type 0 where
   -- there is an instance, and there are no more than the model allows
@@ -63,16 +61,19 @@ pub record HasShape (m : Model) (c : List Instance) : Type 0 where
   -- each instance is of a leaf type, with lists as long as the type asks
   pub built : (i : ℕ) (x : Instance) → IsAt c i x → IsBuilt m x
   -- each value is in its attribute's domain at the instance's type
-  pub values : (i k : ℕ) (x : Instance) (a : AttrAt) (v : ℤ) → IsAt c i x → IsAt (attributes_at m x.kind) k a → IsAt x.values k v
+  pub values : (i k : ℕ) (x : Instance) (a : AttrAt) (v : ℤ) → IsAt c i x
+      → IsAt (attributes_at m x.kind) k a → IsAt x.values k v
       → IsValueOf a.domain (first_words m a.id) v
   -- the links of each port ascend, lead to instances under its target, and are as many as it allows
-  pub links : (i k : ℕ) (x : Instance) (p : PortAt) (links : List ℕ) → IsAt c i x → IsAt (ports_at m x.kind) k p → IsAt x.links k links
+  pub links : (i k : ℕ) (x : Instance) (p : PortAt) (links : List ℕ) → IsAt c i x
+      → IsAt (ports_at m x.kind) k p → IsAt x.links k links
       → AreLinksOf m c p links
-  -- an instance has one part link into it at most, and instance 0 has none
-  pub parts : (j : ℕ) → j < length c → parts_into m c j ≤ 1
-  pub whole : parts_into m c 0 ≡ 0
+  -- no two part links lead to one instance, and none leads to instance 0
+  pub parts : (j : ℕ) (a b : LinkPlace) → IsPartLink m c j a → IsPartLink m c j b → a ≡ b
+  pub whole : (a : LinkPlace) → ¬ IsPartLink m c 0 a
   -- for each entry of `bounds`, the number of instances under its type is within its pair
-  pub counts : (k : ℕ) (b : CountBound) → IsAt m.bounds k b → IsBetween b.low b.high (count_by (under m b.kind) c)
+  pub counts : (k : ℕ) (b : CountBound) → IsAt m.bounds k b
+      → IsBetween b.low b.high (count_by (under m b.kind) c)
 
 -- A configuration is shaped exactly where it has this shape.
 abbrev pub ShapedSentences : Type 0

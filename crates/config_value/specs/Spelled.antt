@@ -27,9 +27,11 @@ is_spelled_value m a v = elim a.domain [
 abbrev pub is_spelled_links : List ℕ → Bool
 is_spelled_links links = ascends links && list_all (λ j. nat_lt j Limits.most_instances) links
 
--- 1 to 64 instances, each of a leaf type, with as many values and lists of links as the type has attributes and ports,
--- and values and links that can be written
+-- 1 to 64 instances, each of a leaf type, with as many values and lists of links as the type has
+-- attributes and ports, and values and links that can be written
 unfoldable pub is_spelled : Model → List Instance → Bool
 is_spelled m c =
     is_between 1 Limits.most_instances (length c) && has_leaf_types m c
-    && list_all (λ x. pointwise (is_spelled_value m) (attributes_at m x.kind) x.values && list_all is_spelled_links x.links) c
+    && list_all
+    (λ x. pointwise (is_spelled_value m) (attributes_at m x.kind) x.values
+    && list_all is_spelled_links x.links) c

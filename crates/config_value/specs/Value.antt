@@ -1,4 +1,5 @@
--- What an expression is at an instance of a configuration. It is meant for expressions without fault and shaped configurations.
+-- What an expression is at an instance of a configuration. It is meant for expressions without
+-- fault and shaped configurations.
 use Rattle.std.specs.Prelude.{ℕ, ℤ, pos, ◌+ℤ◌, ◌-ℤ◌, ◌*ℤ◌, int_lt, int_le, Bool, false, not, ◌||◌, ◌==◌, List, [], map, length, slice_get, slice_index_or}
 use Rattle.std.specs.Option.{option_map_or}
 use Rattle.std.specs.Ordering.{int_eq}
@@ -19,11 +20,16 @@ use Rattle.config_value.specs.declared.found.Found.TheVariants.{Number as number
 
 -- the value of an attribute, by its id; 0 where the instance has no such attribute
 abbrev pub value_of : Model → Instance → ℕ → ℤ
-value_of m x id = option_map_or (λ k. slice_index_or x.values k (pos 0)) (position (λ a. a.id == id) (attributes_at m x.kind)) (pos 0)
+value_of m x id =
+    option_map_or
+    (λ k. slice_index_or x.values k (pos 0)) (position (λ a. a.id == id) (attributes_at m x.kind))
+    (pos 0)
 
 -- the links of a port, by its id; none where the instance has no such port
 abbrev pub links_of : Model → Instance → ℕ → List ℕ
-links_of m x id = option_map_or (λ k. slice_index_or x.links k []) (position (λ p. p.id == id) (ports_at m x.kind)) []
+links_of m x id =
+    option_map_or
+    (λ k. slice_index_or x.links k []) (position (λ p. p.id == id) (ports_at m x.kind)) []
 
 -- the instance is of the type, or of one under it
 abbrev pub under : Model → ℕ → Instance → Bool
@@ -37,18 +43,22 @@ at_instance c f otherwise i = option_map_or f (slice_get c i) otherwise
 abbrev pub is_under : Model → List Instance → ℕ → ℕ → Bool
 is_under m c t i = at_instance c (under m t) false i
 
+-- the value of an attribute at the instance of a number; 0 where there is no such instance
 abbrev pub value_at_instance : Model → List Instance → ℕ → ℕ → ℤ
 value_at_instance m c id i = at_instance c (λ x. value_of m x id) (pos 0) i
 
+-- the links of a port at the instance of a number; none where there is no such instance
 abbrev pub links_at_instance : Model → List Instance → ℕ → ℕ → List ℕ
 links_at_instance m c id i = at_instance c (λ x. links_of m x id) [] i
 
 -- ---- expressions
 
+-- the number that was found, and 0 where a truth was
 abbrev pub as_number : Found → ℤ
 as_number (number n) = n
 as_number (truth b) = pos 0
 
+-- whether a truth was found that is true
 abbrev pub as_truth : Found → Bool
 as_truth (number n) = false
 as_truth (truth b) = b
@@ -62,6 +72,7 @@ holds Differs a b = not (int_eq a b)
 holds AtLeast a b = int_le b a
 holds Greater a b = int_lt b a
 
+-- the sum of whole numbers
 abbrev pub sum_of : List ℤ → ℤ
 sum_of ns = fold ◌+ℤ◌ (pos 0) ns
 
@@ -70,8 +81,10 @@ abbrev pub layer_value : Model → List Instance → Expr-F (ℕ → Found) → 
 layer_value m c (Num n) i = number n
 layer_value m c (Attr a) i = number (value_at_instance m c a i)
 layer_value m c (Count p) i = number (pos (length (links_at_instance m c p i)))
-layer_value m c (CountOf p t) i = number (pos (count_by (is_under m c t) (links_at_instance m c p i)))
-layer_value m c (Sum p a) i = number (sum_of (map (value_at_instance m c a) (links_at_instance m c p i)))
+layer_value m c (CountOf p t) i =
+    number (pos (count_by (is_under m c t) (links_at_instance m c p i)))
+layer_value m c (Sum p a) i =
+    number (sum_of (map (value_at_instance m c a) (links_at_instance m c p i)))
 layer_value m c (Total t a) i = number (sum_of (map (λ x. value_of m x a) (filter (under m t) c)))
 layer_value m c (Number t) i = number (pos (count_by (under m t) c))
 layer_value m c (Add args) i = number (sum_of (map (λ e. as_number (e i)) args))
@@ -91,9 +104,10 @@ layer_value m c (Any p e) i = truth (list_any (λ j. as_truth (e j)) (links_at_i
 unfoldable pub value_at : Model → List Instance → ℕ → Expr → Found
 value_at m c i e = fold-Expr (ℕ → Found) (layer_value m c) e i
 
--- the number, or whether it is true, at instance i
+-- the number that it is at instance i
 abbrev pub number_at : Model → List Instance → ℕ → Expr → ℤ
 number_at m c i e = as_number (value_at m c i e)
 
+-- whether it is true at instance i
 abbrev pub is_true_at : Model → List Instance → ℕ → Expr → Bool
 is_true_at m c i e = as_truth (value_at m c i e)

@@ -1,12 +1,19 @@
-//! The laws of configurations, of their order and of conflicts, each as a function that a layer above can
-//! call.
+//! The laws of configurations, of their order and of conflicts, each as a function that a layer
+//! above can call.
 ghost use Rattle.config_value.specs.Laws.{KeyDetermines, RanksTotally, HasOnePreferred, HasOnePreferredConflict, PreferredConflictIsMinimal, PreferredConflictIsEmpty};
+ghost use Rattle.config_value.specs.NumberedSentences.{NumberedSentences};
 ghost use Rattle.config_value.specs.ShapedSentences.{ShapedSentences};
 ghost use Rattle.config_value.specs.BoundsHold.{BoundsHold, ShapedIsSpelled};
 
 /// A configuration is shaped exactly where it has its shape, place by place.
 pub fn shaped_sentences()
     ensures { ShapedSentences }
+{}
+
+/// Instances are numbered in order exactly where each from 1 on is first mentioned by a lower one,
+/// and, but for instance 1, after the first mention of the one before it.
+pub fn numbered_sentences()
+    ensures { NumberedSentences }
 {}
 
 /// On shaped configurations of one model the key determines the configuration.
@@ -39,8 +46,8 @@ pub fn preferred_conflict_is_empty()
     ensures { PreferredConflictIsEmpty }
 {}
 
-/// In a shaped configuration, at each instance under a type, the value of an expression lies within its bounds
-/// there.
+/// In a shaped configuration, at each instance under a type, the value of an expression lies within
+/// its bounds there.
 pub fn bounds_hold()
     ensures { BoundsHold }
 {}

@@ -5,7 +5,9 @@ mod configuration;
 mod found;
 mod key;
 pub mod laws;
+mod relation;
 mod turn;
 
 pub use configuration::{Configuration, Instance};
 pub use found::Found;
+pub use relation::holds;

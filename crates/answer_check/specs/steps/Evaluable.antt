@@ -1,4 +1,5 @@
--- What a form of expression is at an instance from what its arguments are, and where it can be computed in 64 bits.
+-- What a form of expression is at an instance from what its arguments are, and where it can be
+-- computed in 64 bits.
 use Rattle.std.specs.Prelude.{◌≡◌, ℕ, ℤ, pos, neg_ℤ, Bool, false, ◌≤ℤ◌, ◌-ℤ◌, ◌*ℤ◌, not, ◌||◌, List, map, length, slice_get, Some}
 use Rattle.std.specs.Ordering.{int_eq}
 use Rattle.std.specs.List.{list_any, list_all, filter, count_by}
@@ -16,8 +17,10 @@ abbrev pub form_value : Model → List Instance → ℕ → Expr-F Expr → Foun
 form_value m c i (Num n) = number n
 form_value m c i (Attr a) = number (value_at_instance m c a i)
 form_value m c i (Count p) = number (pos (length (links_at_instance m c p i)))
-form_value m c i (CountOf p t) = number (pos (count_by (is_under m c t) (links_at_instance m c p i)))
-form_value m c i (Sum p a) = number (sum_of (map (value_at_instance m c a) (links_at_instance m c p i)))
+form_value m c i (CountOf p t) =
+    number (pos (count_by (is_under m c t) (links_at_instance m c p i)))
+form_value m c i (Sum p a) =
+    number (sum_of (map (value_at_instance m c a) (links_at_instance m c p i)))
 form_value m c i (Total t a) = number (sum_of (map (λ x. value_of m x a) (filter (under m t) c)))
 form_value m c i (Number t) = number (pos (count_by (under m t) c))
 form_value m c i (Add args) = number (sum_of (map (number_at m c i) args))
@@ -58,11 +61,14 @@ IsEvaluable m c i (Num n) = Unit {0}
 IsEvaluable m c i (Attr a) = Unit {0}
 IsEvaluable m c i (Count p) = Unit {0}
 IsEvaluable m c i (CountOf p t) = Unit {0}
-IsEvaluable m c i (Sum p a) = IsSmall (sum_of (map (value_at_instance m c a) (links_at_instance m c p i)))
+IsEvaluable m c i (Sum p a) =
+    IsSmall (sum_of (map (value_at_instance m c a) (links_at_instance m c p i)))
 IsEvaluable m c i (Total t a) = IsSmall (sum_of (map (λ x. value_of m x a) (filter (under m t) c)))
 IsEvaluable m c i (Number t) = Unit {0}
-IsEvaluable m c i (Add args) = EachHasBounds m c i args × IsSmall (sum_of (map (number_at m c i) args))
-IsEvaluable m c i (Sub e f) = HasBoundsAt m c i e × HasBoundsAt m c i f × IsSmall (number_at m c i e -ℤ number_at m c i f)
+IsEvaluable m c i (Add args) =
+    EachHasBounds m c i args × IsSmall (sum_of (map (number_at m c i) args))
+IsEvaluable m c i (Sub e f) =
+    HasBoundsAt m c i e × HasBoundsAt m c i f × IsSmall (number_at m c i e -ℤ number_at m c i f)
 IsEvaluable m c i (Times k e) = HasBoundsAt m c i e × IsSmall (k *ℤ number_at m c i e)
 IsEvaluable m c i (Cmp r e f) = HasBoundsAt m c i e × HasBoundsAt m c i f
 IsEvaluable m c i (Is a w) = Unit {0}

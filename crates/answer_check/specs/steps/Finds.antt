@@ -9,7 +9,8 @@ use Rattle.answer_check.specs.Breaks.{Break, Breaks, Tells}
 
 -- the test of this code is broken at this instance and item
 abbrev pub BreaksAt : Model → List Instance → ℕ → ℕ → ℕ → Type 0
-BreaksAt m c code instance item = Breaks m c (record { code = code; instance = instance; item = item })
+BreaksAt m c code instance item =
+    Breaks m c (record { code = code; instance = instance; item = item })
 
 -- the first number that has P, and nothing where none has it
 abbrev pub FindsItem : (ℕ → Type 0) → Option ℕ → Type 0

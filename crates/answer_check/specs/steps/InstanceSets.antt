@@ -22,8 +22,10 @@ HasBoundsAmong m c among e = (i : ℕ) → IsTrue (is_member among i) → HasBou
 
 -- and each of these expressions has
 abbrev pub EachHasBoundsAmong : Model → List Instance → InstanceSet → List Expr → Type 0
-EachHasBoundsAmong m c among args = (k : ℕ) (e : Expr) → slice_get args k ≡ Some e → HasBoundsAmong m c among e
+EachHasBoundsAmong m c among args =
+    (k : ℕ) (e : Expr) → slice_get args k ≡ Some e → HasBoundsAmong m c among e
 
 -- of the instances of a set, those at which the expression is true
 abbrev pub AreTrueAmong : Model → List Instance → InstanceSet → Expr → InstanceSet → Type 0
-AreTrueAmong m c among e found = (i : ℕ) → is_member found i ≡ (is_member among i && is_true_at m c i e)
+AreTrueAmong m c among e found =
+    (i : ℕ) → is_member found i ≡ (is_member among i && is_true_at m c i e)

@@ -1,4 +1,5 @@
--- Which instances part links were seen to lead to, in two masks in which bit j stands for instance j.
+-- Which instances part links were seen to lead to, in two masks in which bit j stands for
+-- instance j.
 use Rattle.std.specs.Prelude.{ℕ, ◌^◌, ◌==◌, Bool, nat_lt, bit_and, bit_or, List, if◌then◌else◌}
 use Rattle.std.specs.Int.{bit_at}
 use Rattle.std.specs.List.{fold, zip}
@@ -14,7 +15,10 @@ nothing_seen = record { once = 0; twice = 0 }
 
 -- one more link, which a mask of 64 bits may have no place for
 abbrev pub seen_after_link : Seen → ℕ → Seen
-seen_after_link s j = if nat_lt j 64 then record { once = bit_or s.once (2 ^ j); twice = bit_or s.twice (bit_and s.once (2 ^ j)) } else s
+seen_after_link s j =
+    if nat_lt j 64
+    then record { once = bit_or s.once (2 ^ j); twice = bit_or s.twice (bit_and s.once (2 ^ j)) }
+    else s
 
 -- the links of one more port, those of a shared one uncounted
 abbrev pub seen_after_port : Seen → PortAt × List ℕ → Seen

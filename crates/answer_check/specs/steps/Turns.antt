@@ -1,4 +1,5 @@
--- Which instances are mentioned, and which in turn, as links are read in order: two masks, in which bit j stands for instance j.
+-- Which instances are mentioned, and which in turn, as links are read in order: two masks, in which
+-- bit j stands for instance j.
 use Rattle.std.specs.Prelude.{ℕ, ◌-◌, ◌^◌, ◌==◌, ◌&&◌, ◌||◌, Bool, nat_lt, bit_or, List, if◌then◌else◌}
 use Rattle.std.specs.Int.{bit_at}
 use Rattle.std.specs.List.{fold, enumerate_from}
@@ -8,7 +9,8 @@ use Rattle.answer_check.specs.declared.turns.Turns.{Turns}
 abbrev pub no_turns : Turns
 no_turns = record { mentioned = 0; in_turn = 0 }
 
--- a link that mentions an instance first does so in turn: it comes from a lower one, and the instance before has been mentioned
+-- a link that mentions an instance first does so in turn: it comes from a lower one, and the
+-- instance before has been mentioned
 abbrev pub comes_in_turn : Turns → ℕ → ℕ → Bool
 comes_in_turn t from j = nat_lt from j && ((j == 1) || (bit_at t.mentioned (j - 1) == 1))
 
@@ -16,7 +18,10 @@ comes_in_turn t from j = nat_lt from j && ((j == 1) || (bit_at t.mentioned (j - 
 abbrev pub turns_after_link : ℕ → Turns → ℕ → Turns
 turns_after_link from t j =
     if nat_lt j 64 && (bit_at t.mentioned j == 0)
-    then record { mentioned = bit_or t.mentioned (2 ^ j); in_turn = if comes_in_turn t from j then bit_or t.in_turn (2 ^ j) else t.in_turn }
+    then record {
+      mentioned = bit_or t.mentioned (2 ^ j);
+      in_turn = if comes_in_turn t from j then bit_or t.in_turn (2 ^ j) else t.in_turn;
+    }
     else t
 
 abbrev pub turns_after_port : ℕ → Turns → List ℕ → Turns

@@ -1,26 +1,12 @@
 //! Rules and criteria of a plain model, at the values of its attributes.
 ghost use Rattle.std.specs.Prelude.{◌≡◌};
 ghost use Rattle.std.specs.Ordering.{is_lt};
-ghost use Rattle.config_value.specs.Value.{holds};
 ghost use Rattle.prod_model.specs.declared.expr.Expr.TheViews.{out-Expr};
 ghost use Rattle.config_cli.specs.Sides.{side_value, is_met, meets_rules, criterion_order, criteria_order, values_order};
 
-use prod_model::{Criterion, Expr, Relation, Rule};
+use config_value::holds;
+use prod_model::{Criterion, Expr, Rule};
 use std::cmp::Ordering;
-
-/// Whether the numbers stand so to each other.
-fn holds(relation: Relation, a: i64, b: i64) -> bool
-    ensures { result ≡ holds relation a b }
-{
-    match relation {
-        Relation::Less => a < b,
-        Relation::AtMost => a <= b,
-        Relation::Equal => a == b,
-        Relation::Differs => a != b,
-        Relation::AtLeast => a >= b,
-        Relation::Greater => a > b,
-    }
-}
 
 /// The number that a plain side is, and 0 where the side isn't plain.
 fn side_value(values: &[i64], side: &Expr) -> i64

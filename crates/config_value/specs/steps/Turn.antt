@@ -1,5 +1,5 @@
--- Whose turn it is to be mentioned, as links are read in order: the lowest instance, from 1 on, that
--- none so far leads to.
+-- Whose turn it is to be mentioned, as links are read in order: the lowest instance, from 1 on,
+-- that none so far leads to.
 use Rattle.std.specs.Prelude.{ℕ, ◌+◌, ◌&&◌, ◌||◌, ◌==◌, nat_lt, nat_le, Option, Some, None, List, [], ◌∷◌, map, if◌then◌else◌}
 use Rattle.std.specs.Option.{option_and_then}
 use Rattle.std.specs.List.{flat_map, enumerate_from}
@@ -26,4 +26,5 @@ turn_after_link count turn l =
 -- the turn after the links, or nothing where one is out of turn
 abbrev pub turn_after : ℕ → ℕ → List Link → Option ℕ
 turn_after count turn [] = Some turn
-turn_after count turn (l ∷ ls) = option_and_then (λ t. turn_after count t ls) (turn_after_link count turn l)
+turn_after count turn (l ∷ ls) =
+    option_and_then (λ t. turn_after count t ls) (turn_after_link count turn l)
