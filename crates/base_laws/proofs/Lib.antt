@@ -1,4 +1,5 @@
 pub mod Places
+pub mod Searches
 pub mod Tests
 pub mod Ranges
 pub mod Steps

@@ -27,3 +27,5 @@ pub mod DistinctDeclarations
 pub mod MappedEntries
 pub mod ShortLists
 pub mod TaxonomyTests
+pub mod NamedDeclarations
+pub mod NearestEntries

@@ -11,7 +11,7 @@ use Rattle.prod_model.specs.Names.{same_text}
 use Rattle.type_taxonomy.specs.declared.by_name.Found.{Found}
 use Rattle.type_taxonomy.specs.steps.ByName.{found, found_at}
 use Rattle.type_taxonomy.proofs.Inherited.{is_none_map}
-use Rattle.prod_model.proofs.NameLaws.{same_text_symm}
+use Rattle.prod_model.proofs.NamedDeclarations.{none_found}
 
 cond_map : {A B : Type 0} (f : A → B) (b : Bool) (x : A) (o : Option A) → option_map f (cond b (Some x) o) ≡ cond b (Some (f x)) (option_map f o)
 cond_map f true x o = refl
@@ -28,22 +28,11 @@ found_put m n key name f updates is q =
 
 -- ---- which names are free
 
-none_cons : {A : Type 0} (b any : Bool) (x : A) (rest : Option A) → is_none rest ≡ not any → is_none (cond b (Some x) rest) ≡ not (b || any)
-none_cons true any x rest same = refl
-none_cons false any x rest same = same
-
 pub none_or : {A : Type 0} (o p : Option A) (a b : Bool) → is_none o ≡ not a → is_none p ≡ not b → is_none (option_or o p) ≡ not (a || b)
 none_or None p true b first second = cc
 none_or None p false b first second = second
 none_or (Some x) p true b first second = refl
 none_or (Some x) p false b first second = cc
-
-none_found : {D : Type 0} (name_of : D → List ℕ) (ds : List D) (name : List ℕ)
-    → is_none (find (λ d. same_text (name_of d) name) ds) ≡ not (list_any (λ d. same_text name (name_of d)) ds)
-none_found name_of [] name = refl
-none_found name_of (d ∷ ds) name =
-    let rest = list_any (λ e. same_text name (name_of e)) ds in
-    none_cons (same_text (name_of d) name) rest d (find (λ e. same_text (name_of e) name) ds) (none_found name_of ds name) ∙ ap (λ b. not (b || rest)) (same_text_symm (name_of d) name)
 
 -- nothing is found exactly where none of the declarations has the name
 pub none_at : {D : Type 0} (name_of : D → List ℕ) (height : ℕ) (ds : List D) (name : List ℕ)

@@ -2,6 +2,7 @@
 use Rattle.std.proofs.Common.{◌≡◌, ℕ, List, [], ◌∷◌, map, sym, ap, ◌∙◌, refl, Option, Some, None, is_none, Bool, true, false, cond, ◌&&◌, nat_le}
 use Rattle.std.specs.Option.{option_map, option_map_or, option_and_then}
 use Rattle.std.specs.List.{find}
+use Rattle.base_laws.proofs.Searches.{find_map}
 use Rattle.prod_model.specs.declared.model.Model.{Model}
 use Rattle.prod_model.specs.declared.model.TypeDecl.{TypeDecl}
 use Rattle.prod_model.specs.declared.model.AttrDecl.{AttrDecl}
@@ -14,15 +15,6 @@ use Rattle.prod_model.specs.Valid.{inherited, narrows_domain, same_kind, attribu
 use Rattle.type_taxonomy.specs.steps.Entries.{placed_of}
 use Rattle.prod_model.proofs.MappedEntries.{under}
 use Rattle.type_taxonomy.proofs.Finished.{attribute_at, port_at, attributes_finished, ports_finished}
-
-pub find_map_cons : {A B : Type 0} (f : A → B) (b : Bool) (x : A) (r : Option B) (q : Option A) → r ≡ option_map f q → cond b (Some (f x)) r ≡ option_map f (cond b (Some x) q)
-find_map_cons f true x r q same = refl
-find_map_cons f false x r q same = same
-
--- a search of a mapped list
-pub find_map : {A B : Type 0} (p : B → Bool) (f : A → B) (xs : List A) → find p (map f xs) ≡ option_map f (find (λ x. p (f x)) xs)
-find_map p f [] = refl
-find_map p f (x ∷ xs) = find_map_cons f (p (f x)) x (find p (map f xs)) (find (λ y. p (f y)) xs) (find_map p f xs)
 
 -- what the parent has under a name, among ids with declarations
 abbrev pub placed_above : {D : Type 0} → (TypeDecl → List D) → (D → List ℕ) → List TypeDecl → Option ℕ → List ℕ → Option (Named (ℕ × D))

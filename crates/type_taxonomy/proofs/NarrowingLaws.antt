@@ -10,18 +10,19 @@ use Rattle.prod_model.specs.declared.model.PortDecl.{PortDecl}
 use Rattle.prod_model.specs.Forest.{ancestors}
 use Rattle.prod_model.specs.Valid.{narrows_domain, attribute_narrows, port_narrows, has_distinct_names}
 use Rattle.prod_model.proofs.DistinctDeclarations.{no_port, no_attribute}
+use Rattle.prod_model.proofs.NamedDeclarations.{types_along, first_named}
 use Rattle.type_taxonomy.specs.steps.Built.{NarrowsAll}
 use Rattle.base_laws.specs.Places.{IsAt}
 use Rattle.type_taxonomy.specs.Nearest.{nearest}
 use Rattle.type_taxonomy.specs.steps.NearestTests.{lies_within, attribute_narrows_nearest, port_narrows_nearest}
 use Rattle.type_taxonomy.specs.steps.TypeForest.{IsForest}
 use Rattle.type_taxonomy.proofs.Inherited.{placed_above, is_none_map, map_or_map, attribute_told, port_told}
-use Rattle.type_taxonomy.proofs.NearestLaws.{kinds_of, first_named, above_nearest}
+use Rattle.type_taxonomy.proofs.NearestLaws.{above_nearest}
 use Rattle.type_taxonomy.proofs.Sorts.{either_attribute, either_port, nearest_told, has_of, none_above}
 
 -- the types above a type, the nearest first
 abbrev above : Model → ℕ → List TypeDecl
-above m t = kinds_of m.types (ancestors m.types t)
+above m t = types_along m.types (ancestors m.types t)
 
 -- what the first of them declares under the name as an attribute, and as a port
 abbrev first_attribute : Model → ℕ → List ℕ → Option AttrDecl

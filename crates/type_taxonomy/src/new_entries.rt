@@ -25,10 +25,18 @@ pub(crate) fn all_new<'a, D: Declaration>(
     let mut next = 0;
     for t in 0..types.len() {
         let row = new_in(alloc, types, &types[t], lines[t].as_slice(), next)?;
-        next += row.len() as u32;
+        next = id_after(next, row.len());
         rows.push(row)?;
     }
     Ok(rows)
+}
+
+/// The id that comes after so many, from this one on.
+fn id_after(id: u32, entries: usize) -> u32
+    requires { id + entries < 2 ^ 32 }
+    ensures { result ≡ id + entries }
+{
+    id + entries as u32
 }
 
 /// What is new in a type with this line, from this id on.

@@ -16,25 +16,12 @@ new_in-requires g c =
     sum_by_next_lt (λ d. length (g.D.Declaration.declared d)) c.args.types.now c.loop-t.t c.loop-t.next (2 ^ 32) c.index-types-t.result c.loop-t-test.true c.index-types-t.is
     c.loop-t.invariant.few c.requires.few
 
-pub overflow_cast-next : goal.overflow_cast-next
-overflow_cast-next g c =
+pub id_after-next-requires : goal.id_after-next-requires
+id_after-next-requires g c =
     let it = g.D.Declaration in
     let is_new = is_new_among it.declared it.name_of c.args.types.now (drop 1 c.as_slice.result.now) in
-    omega (
-      arith,
-      next_id_lt it.declared it.name_of c.args.types.now c.loop-t.t c.loop-t.next (2 ^ 32) c.index-types-t.result is_new c.in_ok-row.row c.len.result c.loop-t-test.true c.index-types-t.is
-          c.loop-t.invariant.few c.requires.few c.len.ensures c.in_ok-row.ensures,
-    )
-
-pub overflow_add-next : goal.overflow_add-next
-overflow_add-next g c =
-    let it = g.D.Declaration in
-    let is_new = is_new_among it.declared it.name_of c.args.types.now (drop 1 c.as_slice.result.now) in
-    omega (
-      arith,
-      next_id_lt it.declared it.name_of c.args.types.now c.loop-t.t c.loop-t.next (2 ^ 32) c.index-types-t.result is_new c.in_ok-row.row c.len.result c.loop-t-test.true c.index-types-t.is
-          c.loop-t.invariant.few c.requires.few c.len.ensures c.in_ok-row.ensures,
-    )
+    next_id_lt it.declared it.name_of c.args.types.now c.loop-t.t c.loop-t.next (2 ^ 32) c.index-types-t.result is_new c.in_ok-row.row c.len.result c.loop-t-test.true c.index-types-t.is
+    c.loop-t.invariant.few c.requires.few c.len.ensures c.in_ok-row.ensures
 
 pub loop-t-preserved : goal.loop-t-preserved
 loop-t-preserved g c =
@@ -54,6 +41,6 @@ loop-t-preserved g c =
     c.in_ok-row.ensures ∙ ap (λ k. numbered it.declared it.name_of k fresh) c.loop-t.invariant.next ∙ ap (numbered it.declared it.name_of (first_id it.declared it.name_of types t)) is_new in
     record {
       rows = table_map_more (map (named it.name_of)) (new_of it.declared it.name_of types) c.loop-t.rows c.push.new.self t c.in_ok-row.row c.loop-t.invariant.rows c.in_ok-push.ensures.ok row;
-      next = first_id_more it.declared it.name_of types t c.loop-t.next c.len.result c.loop-t.invariant.next (size ∙ ap length is_new);
-      few = sum_by_take_le (λ d. length (it.declared d)) types t kind c.loop-t.next c.len.result c.loop-t-test.true c.index-types-t.is c.loop-t.invariant.few few;
+      next = c.id_after-next.ensures ∙ first_id_more it.declared it.name_of types t c.loop-t.next c.len.result c.loop-t.invariant.next (size ∙ ap length is_new);
+      few = omega (arith, c.id_after-next.ensures, sum_by_take_le (λ d. length (it.declared d)) types t kind c.loop-t.next c.len.result c.loop-t-test.true c.index-types-t.is c.loop-t.invariant.few few);
     }
