@@ -2,7 +2,6 @@ pub mod Items
 pub mod FewItems
 pub mod BrokenPorts
 pub mod BadValues
-pub mod OwnWords
 pub mod BreakParts
 pub mod Singles
 pub mod SeenParts

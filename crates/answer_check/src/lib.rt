@@ -4,7 +4,6 @@
 
 pub mod codes;
 mod evaluate;
-mod first_words;
 mod in_order;
 mod instance_set;
 mod instances;

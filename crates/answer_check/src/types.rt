@@ -12,8 +12,8 @@ use prod_model::{AttrAt, PortAt, Problem};
 pub(crate) fn is_under(problem: &Problem, kind: u32, of: u32) -> bool
     ensures { result ≡ is_a problem.now kind of }
 {
-    let count = problem.model().types.len();
-    (kind as usize) < count && (of as usize) < count && problem.is_a(kind, of)
+    let model = problem.model();
+    model.is_type(kind) && model.is_type(of) && problem.is_a(kind, of)
 }
 
 /// The attributes of a type.
@@ -21,7 +21,7 @@ pub(crate) fn is_under(problem: &Problem, kind: u32, of: u32) -> bool
 pub(crate) fn attributes_of(problem: &Problem, kind: u32) -> &[AttrAt]
     ensures { result.now ≡ attributes_at problem.now kind }
 {
-    if (kind as usize) < problem.model().types.len() {
+    if problem.model().is_type(kind) {
         problem.attrs_of(kind)
     } else {
         &[]
@@ -33,7 +33,7 @@ pub(crate) fn attributes_of(problem: &Problem, kind: u32) -> &[AttrAt]
 pub(crate) fn ports_of(problem: &Problem, kind: u32) -> &[PortAt]
     ensures { result.now ≡ ports_at problem.now kind }
 {
-    if (kind as usize) < problem.model().types.len() {
+    if problem.model().is_type(kind) {
         problem.ports_of(kind)
     } else {
         &[]

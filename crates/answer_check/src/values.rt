@@ -11,7 +11,6 @@ ghost use Rattle.config_value.specs.Spelled.{is_spelled};
 ghost use Rattle.answer_check.specs.Codes.{bad_value_code};
 ghost use Rattle.answer_check.specs.steps.Finds.{BreaksAt, FindsItem, FindsPlace};
 
-use crate::first_words::first_words;
 use crate::place::Place;
 use crate::types::attributes_of;
 use config_value::Configuration;
@@ -60,7 +59,7 @@ fn has_value(problem: &Problem, kind: u32, attribute: &AttrAt, value: i64) -> bo
         Domain::Range { low, high } => *low <= value && value <= *high,
         Domain::Words(words) => has_word(
             words.as_slice(),
-            first_words(problem, kind, attribute.id),
+            problem.first_words(kind, attribute.id),
             value,
         ),
     }
