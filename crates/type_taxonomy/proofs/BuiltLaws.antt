@@ -1,11 +1,10 @@
 -- What the lines and rows of a built forest are.
 use Rattle.std.proofs.Common.{◌≡◌, ℕ, ◌<◌, ◌≤◌, ◌⊎◌, ◌==◌, List, [], ◌∷◌, length, map, get_or, inl, inr, sym, ap, ◌∙◌, refl, Some, None, false, ◌&&◌, nat_le, slice_get, arith}
-use Rattle.std.specs.Option.{option_map_or}
 use Rattle.std.specs.List.{list_any, range_with_len}
 use Rattle.std.proofs.lemmas.Bool.{cases_lt}
 use Rattle.std.proofs.lemmas.List.{length-map, get_or-map, get_or_default}
 use Rattle.std.proofs.lemmas.List.FromFn.{fill_by_all}
-use Rattle.std.proofs.lemmas.Option.{slice_get_within, slice_get_past, slice_get-get_or, get_or_from_slice_get}
+use Rattle.std.proofs.lemmas.Option.{slice_get_within, slice_get-get_or, get_or_from_slice_get}
 use Rattle.prod_model.specs.declared.model.Model.{Model}
 use Rattle.prod_model.specs.declared.model.AttrDecl.{AttrDecl}
 use Rattle.prod_model.specs.declared.model.PortDecl.{PortDecl}
@@ -14,7 +13,8 @@ use Rattle.prod_model.specs.declared.model.PortAt.{PortAt}
 use Rattle.prod_model.specs.Valid.{has_room_at}
 use Rattle.prod_model.specs.Taxonomy.{made_attribute, made_port, attributes_at, ports_at, tables_of}
 use Rattle.type_taxonomy.specs.declared.entry.Entry.{Entry}
-use Rattle.prod_model.specs.Forest.{line, line_within, is_a, type_numbers}
+use Rattle.prod_model.specs.Forest.{line, is_a, type_numbers}
+use Rattle.prod_model.proofs.NoTypes.{is_a_outside}
 use Rattle.type_taxonomy.specs.declared.forest.Forest.{Forest}
 use Rattle.type_taxonomy.specs.steps.Built.{IsBuilt}
 use Rattle.type_taxonomy.specs.steps.Entries.{named, placed_of}
@@ -42,11 +42,10 @@ is_a_line m lines t u l is found =
 
 no_line : (m : Model) (lines : List (List ℕ)) (t u : ℕ) → lines ≡ map (line m.types) (type_numbers m.types) → slice_get lines t ≡ None
     → (t < length lines) ⊎ (length lines ≤ t) → false ≡ is_a m t u
-unfolding is_a
 no_line m lines t u is none (inl within) = let some = slice_get-get_or lines t [] within in cc
 no_line m lines t u is none (inr past) =
     let beyond : length m.types ≤ t = omega (arith, length_table (line m.types) lines (length m.types) is) in
-    ap (λ o. list_any (λ v. v == u) (option_map_or (λ d. t ∷ option_map_or (line_within (length m.types) m.types) d.parent []) o [])) (sym (slice_get_past m.types t beyond))
+    sym (is_a_outside m t u (inl beyond))
 
 -- and a number that is no type's
 pub is_a_none : (m : Model) (lines : List (List ℕ)) (t u : ℕ) → lines ≡ map (line m.types) (type_numbers m.types) → slice_get lines t ≡ None → false ≡ is_a m t u

@@ -1,5 +1,5 @@
 -- What the parent of a type has under a name, among ids with declarations.
-use Rattle.std.proofs.Common.{◌≡◌, ℕ, List, [], ◌∷◌, map, sym, ap, ◌∙◌, refl, Option, Some, None, is_none, Bool, true, false, cond, ◌&&◌, nat_le}
+use Rattle.std.proofs.Common.{◌≡◌, ℕ, List, [], ◌∷◌, map, sym, ap, ap₂, ◌∙◌, refl, Option, Some, None, is_none, Bool, true, false, cond, ◌&&◌, nat_le}
 use Rattle.std.specs.Option.{option_map, option_map_or, option_and_then}
 use Rattle.std.specs.List.{find}
 use Rattle.base_laws.proofs.Searches.{find_map}
@@ -42,9 +42,6 @@ pub map_or_map : {A B C : Type 0} (g : B → C) (f : A → B) (o : Option A) (c 
 map_or_map g f None c = refl
 map_or_map g f (Some x) c = refl
 
-both : (a b c d : Bool) → a ≡ b → c ≡ d → (a && c) ≡ (b && d)
-both a b c d first second = ap (λ x. x && c) first ∙ ap (λ x. b && x) second
-
 -- the two tests of an attribute are the definition
 pub attribute_told : (m : Model) (d : TypeDecl) (a : AttrDecl) (free within : Bool)
     → free ≡ is_none (placed_above (λ e. e.ports) (λ e. e.name) m.types d.parent a.name)
@@ -57,7 +54,7 @@ attribute_told m d a free within is_free is_within =
     inherited_at (λ e. e.ports) (λ e. e.name) ports_of port_at m.types d.parent a.name (ports_finished m.types) in
     let attributes : inherited attributes_of m d a.name ≡ option_map (λ e. attribute_at e.what) above =
     inherited_at (λ e. e.attributes) (λ e. e.name) attributes_of attribute_at m.types d.parent a.name (attributes_finished m.types) in
-    both _ _ _ _ (is_free ∙ sym (is_none_map (λ e. port_at e.what) above_ports) ∙ ap is_none (sym ports))
+    ap₂ (λ x y. x && y) (is_free ∙ sym (is_none_map (λ e. port_at e.what) above_ports) ∙ ap is_none (sym ports))
     (is_within ∙ sym (map_or_map (λ b. narrows_domain a.domain b.domain) (λ e. attribute_at e.what) above true)
     ∙ ap (λ o. option_map_or (λ b. narrows_domain a.domain b.domain) o true) (sym attributes))
 
@@ -75,5 +72,5 @@ port_told m d p free within is_free is_within =
     inherited_at (λ e. e.attributes) (λ e. e.name) attributes_of attribute_at m.types d.parent p.name (attributes_finished m.types) in
     let ports : inherited ports_of m d p.name ≡ option_map (λ e. port_at e.what) above =
     inherited_at (λ e. e.ports) (λ e. e.name) ports_of port_at m.types d.parent p.name (ports_finished m.types) in
-    both _ _ _ _ (is_free ∙ sym (is_none_map (λ e. attribute_at e.what) above_attributes) ∙ ap is_none (sym attributes))
+    ap₂ (λ x y. x && y) (is_free ∙ sym (is_none_map (λ e. attribute_at e.what) above_attributes) ∙ ap is_none (sym attributes))
     (is_within ∙ sym (map_or_map narrow (λ e. port_at e.what) above true) ∙ ap (λ o. option_map_or narrow o true) (sym ports))

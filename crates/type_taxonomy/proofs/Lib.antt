@@ -10,6 +10,7 @@ pub mod Items
 pub mod Lines
 pub mod NarrowingLaws
 pub mod NearestCases
+mod NearestExamples
 pub mod NearestLaws
 pub mod NewEntries
 pub mod RowLaws
