@@ -10,7 +10,8 @@ use Rattle.config_value.specs.declared.configuration.Instance.{Instance}
 use Rattle.config_value.specs.Value.{under, is_under, is_true_at}
 use Rattle.config_value.specs.Shaped.{part_links}
 use Rattle.config_value.specs.Numbered.{is_in_turn}
-use Rattle.answer_check.specs.Breaks.{Has, most_part_links, too_many, other_root, bad_value, no_instance, off_target, bad_number, shared_part, misnumbered, bad_count, false_rule}
+use Rattle.base_laws.specs.Places.{IsAt}
+use Rattle.answer_check.specs.Breaks.{most_part_links, too_many, other_root, bad_value, no_instance, off_target, bad_number, shared_part, misnumbered, bad_count, false_rule}
 use Rattle.answer_check.specs.steps.Finds.{BreaksAt}
 
 module _ (m : Model) (c : List Instance) (code i k : ℕ) where
@@ -62,7 +63,7 @@ module _ (m : Model) (c : List Instance) (code i k : ℕ) where
   misnumbered_parts here (bad_count is _ _ _ _) = absurd (omega arith)
   misnumbered_parts here (false_rule is _ _ _ _ _ _) = absurd (omega arith)
 
-  pub bad_count_parts : code ≡ 9 → BreaksAt m c code i k → (i ≡ 0) × (n : CountBound) × Has m.bounds k n × IsFalse (is_between n.low n.high (count_by (under m n.kind) c))
+  pub bad_count_parts : code ≡ 9 → BreaksAt m c code i k → (i ≡ 0) × (n : CountBound) × IsAt m.bounds k n × IsFalse (is_between n.low n.high (count_by (under m n.kind) c))
   bad_count_parts here (bad_count is instance n bound bad) = (instance, n, bound, bad)
   bad_count_parts here (too_many is _ _ _) = absurd (omega arith)
   bad_count_parts here (other_root is _ _ _) = absurd (omega arith)
@@ -74,7 +75,7 @@ module _ (m : Model) (c : List Instance) (code i k : ℕ) where
   bad_count_parts here (misnumbered is _ _ _ _) = absurd (omega arith)
   bad_count_parts here (false_rule is _ _ _ _ _ _) = absurd (omega arith)
 
-  pub false_rule_parts : code ≡ 10 → BreaksAt m c code i k → (x : Instance) × (r : Rule) × Has c i x × Has m.rules k r × IsTrue (under m r.kind x) × IsFalse (is_true_at m c i r.holds)
+  pub false_rule_parts : code ≡ 10 → BreaksAt m c code i k → (x : Instance) × (r : Rule) × IsAt c i x × IsAt m.rules k r × IsTrue (under m r.kind x) × IsFalse (is_true_at m c i r.holds)
   false_rule_parts here (false_rule is x r stands rule kind wrong) = (x, r, stands, rule, kind, wrong)
   false_rule_parts here (too_many is _ _ _) = absurd (omega arith)
   false_rule_parts here (other_root is _ _ _) = absurd (omega arith)

@@ -9,6 +9,7 @@ use Rattle.prod_model.specs.Taxonomy.{ports_at}
 use Rattle.prod_model.specs.Valid.{IsValid}
 use Rattle.config_value.specs.declared.configuration.Instance.{Instance}
 use Rattle.config_value.specs.Value.{under}
+use Rattle.std.proofs.lemmas.Bool.{not-true, not_from_false}
 use Rattle.base_laws.proofs.Tests.{list_any_at, list_any_from, option_map_or_at, option_map_or_from}
 use Rattle.answer_check.specs.declared.links.PortTest.{PortTest}
 use Rattle.answer_check.specs.declared.links.PortTest.TheVariants.{Leads, OnTarget, Number}
@@ -19,12 +20,6 @@ use Rattle.answer_check.proofs.Items.{Passes, finds_position, finds_same}
 use Rattle.answer_check.proofs.FewItems.{few_ports}
 use Rattle.base_laws.proofs.Lists.{slice_get_zip}
 use Rattle.base_laws.proofs.Lists.{zip_first, zip_second}
-
-not_true : (b : Bool) → not b ≡ true → b ≡ false
-not_true b h = grind arith
-
-not_from : (b : Bool) → b ≡ false → not b ≡ true
-not_from b h = ap not h
 
 contains_at : (xs : List ℕ) (k x : ℕ) → slice_get xs k ≡ Some x → Contains xs x
 contains_at xs k x at = (k, slice_get_within xs k x at, get_or_from_slice_get xs k x x at)
@@ -52,9 +47,9 @@ module _ (m : Model) (c : List Instance) (i : ℕ) (x : Instance) (stands : slic
       let port = port_at 5 k passing.element passing.there in
       let found = list_any_at (is_off m c passing.element.0.target) passing.element.1 passing.passes in
       let other = option_map_or_at (λ y. not (under m passing.element.0.target y)) (slice_get c found.1) found.3 in
-      off_target refl passing.element.0 passing.element.1 found.1 other.0 port (contains_at passing.element.1 found.0 found.1 found.2) other.1 (not_true _ other.2)
+      off_target refl passing.element.0 passing.element.1 found.1 other.0 port (contains_at passing.element.1 found.0 found.1 found.2) other.1 (not-true _ other.2)
   breaks_from Number k passing =
-      bad_number refl passing.element.0 passing.element.1 (port_at 6 k passing.element passing.there) (not_true _ passing.passes)
+      bad_number refl passing.element.0 passing.element.1 (port_at 6 k passing.element passing.there) (not-true _ passing.passes)
 
   same_links : (code k : ℕ) (p : PortAt) (links : List ℕ) → HasPort m c (record { code = code; instance = i; item = k }) p links → slice_get pairs k ≡ Some (p, links)
   same_links code k p links port =
@@ -75,7 +70,7 @@ module _ (m : Model) (c : List Instance) (i : ℕ) (x : Instance) (stands : slic
       → slice_get c j ≡ Some y → under m p.target y ≡ false → Passes (Test OnTarget) pairs k
   on_target code k p links j y port among there off =
       passes_from OnTarget code k p links port (list_any_from (is_off m c p.target) links among.0 j (at_contained links j among)
-      (option_map_or_from (λ z. not (under m p.target z)) (slice_get c j) y there (not_from _ off)))
+      (option_map_or_from (λ z. not (under m p.target z)) (slice_get c j) y there (not_from_false _ off)))
 
   -- what breaks the configuration at a place passes the test there
   pub passes_broken : (test : PortTest) (k : ℕ) → BreaksAt m c (code_of test) i k → Passes (Test test) pairs k
@@ -99,7 +94,7 @@ module _ (m : Model) (c : List Instance) (i : ℕ) (x : Instance) (stands : slic
   passes_broken OnTarget k (misnumbered is _ _ _ _) = absurd (omega arith)
   passes_broken OnTarget k (bad_count is _ _ _ _) = absurd (omega arith)
   passes_broken OnTarget k (false_rule is _ _ _ _ _ _) = absurd (omega arith)
-  passes_broken Number k (bad_number is p links port wrong) = passes_from Number 6 k p links port (not_from _ wrong)
+  passes_broken Number k (bad_number is p links port wrong) = passes_from Number 6 k p links port (not_from_false _ wrong)
   passes_broken Number k (no_instance is _ _ _ _ _ _) = absurd (omega arith)
   passes_broken Number k (off_target is _ _ _ _ _ _ _ _) = absurd (omega arith)
   passes_broken Number k (too_many is _ _ _) = absurd (omega arith)

@@ -9,6 +9,7 @@ use Rattle.prod_model.specs.Limits.{is_between}
 use Rattle.prod_model.specs.Valid.{IsValid}
 use Rattle.config_value.specs.declared.configuration.Instance.{Instance}
 use Rattle.config_value.specs.Value.{under, is_under}
+use Rattle.std.proofs.lemmas.Bool.{not-true}
 use Rattle.answer_check.specs.Breaks.{too_many, other_root, bad_count}
 use Rattle.answer_check.specs.steps.Finds.{BreaksAt, FindsItem, FindsPlace}
 use Rattle.answer_check.proofs.BreakParts.{too_many_parts, other_root_parts, bad_count_parts}
@@ -39,11 +40,8 @@ module _ (m : Model) (c : List Instance) where
   abbrev pub is_bad : CountBound → Bool
   is_bad n = not (is_between n.low n.high (count_by (under m n.kind) c))
 
-  not_true : (b : Bool) → not b ≡ true → b ≡ false
-  not_true b h = grind arith
-
   pub bad_count_from : (k : ℕ) → Passes is_bad m.bounds k → BreaksAt m c 9 0 k
-  bad_count_from k passing = bad_count refl refl passing.element passing.there (not_true _ passing.passes)
+  bad_count_from k passing = bad_count refl refl passing.element passing.there (not-true _ passing.passes)
 
   pub passes_bad_count : (k : ℕ) → BreaksAt m c 9 0 k → Passes is_bad m.bounds k
   passes_bad_count k broken =

@@ -18,6 +18,7 @@ use Rattle.answer_check.specs.Breaks.{misnumbered}
 use Rattle.answer_check.specs.steps.Finds.{BreaksAt, FindsItem}
 use Rattle.answer_check.specs.steps.Turns.{no_turns, comes_in_turn, turns_after_link, turns_after_port, turns_after_instance, turns_in}
 use Rattle.answer_check.proofs.BreakParts.{misnumbered_parts}
+use Rattle.base_laws.proofs.Ranges.{at_enumerate}
 use Rattle.base_laws.proofs.Steps.{fold_next}
 use Rattle.config_value.proofs.LinkPushed.{is_mentioned, in_turn_of, mentioned_pushed, in_turn_pushed, in_turn_mentioned}
 use Rattle.base_laws.proofs.Masks64.{bit_at_with}
@@ -164,16 +165,11 @@ in_turn_masked c j low high = is_set (bit_at (turns_in c).in_turn j) (is_in_turn
 
 -- ---- the pass over the instances
 
-enumerate_next : (n : ℕ) (c : List Instance) (k : ℕ) (x : Instance) → slice_get c k ≡ Some x → slice_get (enumerate_from n c) k ≡ Some (n + k, x)
-enumerate_next n [] k x at = absurd (none-some x at)
-enumerate_next n (y ∷ c) zero x at = let e : n + 0 ≡ n = omega arith in rw e (ap (λ z. Some (n, z)) (same_Some y x at))
-enumerate_next n (y ∷ c) (suc k) x at = let e : n + 1 + k ≡ n + suc k = omega arith in enumerate_next (n + 1) c k x at ∙ ap (λ j. Some (j, x)) e
-
 pub turns_next : (c : List Instance) (k : ℕ) (x : Instance) → slice_get c k ≡ Some x
     → fold turns_after_instance no_turns (take (k + 1) (enumerate_from 0 c)) ≡ turns_after_instance (fold turns_after_instance no_turns (take k (enumerate_from 0 c))) (k, x)
 turns_next c k x at =
     let e : 0 + k ≡ k = omega arith in
-    fold_next turns_after_instance no_turns (enumerate_from 0 c) k (k, x) (enumerate_next 0 c k x at ∙ ap (λ j. Some (j, x)) e)
+    fold_next turns_after_instance no_turns (enumerate_from 0 c) k (k, x) (at_enumerate 0 c k x at ∙ ap (λ j. Some (j, x)) e)
 
 pub turns_all : (c : List Instance) (k : ℕ) → length c ≤ k → fold turns_after_instance no_turns (take k (enumerate_from 0 c)) ≡ turns_in c
 turns_all c k all = ap (fold turns_after_instance no_turns) (take_all k (enumerate_from 0 c) (omega (arith, length-enumerate_from 0 c)))

@@ -2,6 +2,7 @@
 use Rattle.std.specs.Prelude.{◌≡◌, ℕ, ℤ, ◌<◌, ◌≤◌, ◌==◌, IsTrue, IsFalse, List, [], ◌∷◌, length, slice_get, Contains, Some, count_by, if◌then◌else◌}
 use Rattle.std.specs.Ordering.{nat_cmp, is_lt}
 use Rattle.std.specs.Cmp.Lexicographic.{slice_cmp}
+use Rattle.base_laws.specs.Places.{IsAt}
 use Rattle.prod_model.specs.declared.model.Model.{Model}
 use Rattle.prod_model.specs.declared.model.AttrAt.{AttrAt}
 use Rattle.prod_model.specs.declared.model.PortAt.{PortAt}
@@ -24,17 +25,13 @@ pub record Break : Type 0 where
   pub instance : ℕ
   pub item : ℕ
 
--- that place of the list has this
-abbrev pub Has : {A : Type 0} → List A → ℕ → A → Type 0
-Has xs k x = slice_get xs k ≡ Some x
-
 -- the instance that breaks a test has this port at the item's place, with these links
 pub record HasPort (m : Model) (c : List Instance) (b : Break) (p : PortAt) (links : List ℕ)
     : Type 0 where
   pub x : Instance
-  pub stands : Has c b.instance x
-  pub port : Has (ports_at m x.kind) b.item p
-  pub links_there : Has x.links b.item links
+  pub stands : IsAt c b.instance x
+  pub port : IsAt (ports_at m x.kind) b.item p
+  pub links_there : IsAt x.links b.item links
 
 -- how many part links may lead to an instance
 abbrev pub most_part_links : ℕ → ℕ
@@ -49,15 +46,15 @@ pub data Breaks (m : Model) (c : List Instance) (b : Break) : Type 0 where
   other_root : b.code ≡ other_root_code → b.instance ≡ 0 → b.item ≡ 0
       → IsFalse (is_under m c m.root 0) → Breaks m c b
   -- a value is not in its domain
-  bad_value : b.code ≡ bad_value_code → (x : Instance) (a : AttrAt) (v : ℤ) → Has c b.instance x
-      → Has (attributes_at m x.kind) b.item a → Has x.values b.item v
+  bad_value : b.code ≡ bad_value_code → (x : Instance) (a : AttrAt) (v : ℤ) → IsAt c b.instance x
+      → IsAt (attributes_at m x.kind) b.item a → IsAt x.values b.item v
       → IsFalse (has_value m a v) → Breaks m c b
   -- a link leads to no instance
   no_instance : b.code ≡ no_instance_code → (p : PortAt) (links : List ℕ) (j : ℕ)
       → HasPort m c b p links → Contains links j → length c ≤ j → Breaks m c b
   -- a link leads to an instance that is not under the target
   off_target : b.code ≡ off_target_code → (p : PortAt) (links : List ℕ) (j : ℕ) (y : Instance)
-      → HasPort m c b p links → Contains links j → Has c j y
+      → HasPort m c b p links → Contains links j → IsAt c j y
       → IsFalse (under m p.target y) → Breaks m c b
   -- the number of links is outside the port's pair
   bad_number : b.code ≡ bad_number_code → (p : PortAt) (links : List ℕ) → HasPort m c b p links
@@ -69,11 +66,11 @@ pub data Breaks (m : Model) (c : List Instance) (b : Break) : Type 0 where
   misnumbered : b.code ≡ misnumbered_code → b.item ≡ 0 → 1 ≤ b.instance → b.instance < length c
       → IsFalse (is_in_turn c b.instance) → Breaks m c b
   -- a count of instances is outside its bound
-  bad_count : b.code ≡ bad_count_code → b.instance ≡ 0 → (n : CountBound) → Has m.bounds b.item n
+  bad_count : b.code ≡ bad_count_code → b.instance ≡ 0 → (n : CountBound) → IsAt m.bounds b.item n
       → IsFalse (is_between n.low n.high (count_by (under m n.kind) c)) → Breaks m c b
   -- a rule is false at an instance under its type
-  false_rule : b.code ≡ false_rule_code → (x : Instance) (r : Rule) → Has c b.instance x
-      → Has m.rules b.item r → IsTrue (under m r.kind x)
+  false_rule : b.code ≡ false_rule_code → (x : Instance) (r : Rule) → IsAt c b.instance x
+      → IsAt m.rules b.item r → IsTrue (under m r.kind x)
       → IsFalse (is_true_at m c b.instance r.holds) → Breaks m c b
 
 -- the code, the instance and the item

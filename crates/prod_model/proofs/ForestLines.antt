@@ -3,7 +3,7 @@ use Rattle.std.proofs.Common.{◌≡◌, ℕ, zero, suc, ◌<◌, ◌≤◌, Boo
 use Rattle.std.specs.Prelude.{slice_get, IsTrue}
 use Rattle.std.specs.Option.{option_map_or}
 use Rattle.std.specs.List.{list_any, IsDistinct, AllByRecursion}
-use Rattle.std.proofs.lemmas.Bool.{false≢true}
+use Rattle.std.proofs.lemmas.Bool.{false≢true, not-true}
 use Rattle.std.proofs.lemmas.Bool.Decides.{nat_tests}
 use Rattle.std.proofs.lemmas.List.{take_all}
 use Rattle.std.proofs.lemmas.Map.Steps.{length-le_from_distinct_below}
@@ -179,16 +179,11 @@ module _ (types : List TypeDecl) where
       line_of_parent forest t above.decl above.stands
       ∙ ap (λ o. t ∷ option_map_or (line types) o []) above.parent
 
--- what is not true is false
-not_true : (b : Bool) → not b ≡ true → b ≡ false
-not_true true fails = absurd (false≢true fails)
-not_true false fails = refl
-
 -- no type of a forest is its own ancestor
 pub no_cycle : (m : Model) → IsTrue (is_forest m) → HasNoCycle m.types
 unfolding is_forest
 no_cycle m forest t = elim (slice_get_cases m.types t).1 [
-  | inl within ↦ not_true (is_in_circle m t)
+  | inl within ↦ not-true (is_in_circle m t)
       (ap (λ k. not (is_in_circle m k)) (sym (zero-add t))
       ∙ list_all_below (λ u. not (is_in_circle m u)) 0 (length m.types) t forest within.1)
   | inr outside ↦

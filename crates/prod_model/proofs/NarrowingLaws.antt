@@ -5,7 +5,7 @@ use Rattle.std.specs.Option.{option_map, option_map_or, option_and_then}
 use Rattle.std.specs.List.{list_all, find}
 use Rattle.std.specs.Bool.{passes}
 use Rattle.std.specs.Int.Signed.{le_z_yes}
-use Rattle.std.proofs.lemmas.Bool.{false≢true, and_parts}
+use Rattle.std.proofs.lemmas.Bool.{false≢true, and_parts, false_from_ne_true}
 use Rattle.std.proofs.lemmas.Int.{ints}
 use Rattle.std.proofs.lemmas.List.Folds.{list_any-append}
 use Rattle.std.proofs.lemmas.Option.{same_Some, none-some}
@@ -94,11 +94,6 @@ has_each_trans R trans xs ys zs first second k x there =
 
 -- ---- one step of a line
 
--- a test that cannot be true is false
-not_true : (b : Bool) → (b ≡ true → ⊥) → b ≡ false
-not_true true not = absurd (not refl)
-not_true false not = refl
-
 -- where no name stands twice, an entry is found under its name
 find_entry : {A : Type 0} (es : List (Named A)) → IsTrue (is_distinct (map (λ e. e.name) es)) → (k : ℕ) (e : Named A) → IsAt es k e
     → find (λ x. same_text x.name e.name) es ≡ Some e
@@ -111,7 +106,7 @@ find_entry (x ∷ es) distinct (suc k) e there =
     let names = map (λ (e : Named _). e.name) es in
     let other = (and_parts _ _ distinct).0 in
     let fails : same_text x.name e.name ≡ false =
-    not_true (same_text x.name e.name) (λ same.
+    false_from_ne_true (same_text x.name e.name) (λ same.
     false≢true (sym (ap not (list_any_from (same_text x.name) names k e.name (at_map (λ e. e.name) es k e there) same)) ∙ other)) in
     ap (λ b. cond b (Some x) (find (λ y. same_text y.name e.name) es)) fails ∙ find_entry es (and_parts _ _ distinct).1 k e there
 
