@@ -18,7 +18,7 @@ use Rattle.type_taxonomy.specs.declared.fault.TaxFault.TheVariants.{UnknownParen
 use Rattle.type_taxonomy.specs.steps.Built.{attribute_narrows_at, port_narrows_at, NarrowsAll, IsWideningOf, IsFirstWidening, of_attribute, of_port}
 use Rattle.base_laws.specs.Places.{IsAt}
 use Rattle.type_taxonomy.specs.Faults.{HasTaxFault, unknown_parent, cycle, wider_attribute, wider_port, crowded, rank_of, IsFaultBefore, IsFirstTaxFault, Faults}
-use Rattle.type_taxonomy.specs.steps.Firsts.{IsFirstFailing}
+use Rattle.type_taxonomy.specs.steps.FirstFailing.{IsFirstFailing}
 use Rattle.type_taxonomy.specs.Nearest.{AttributeNarrows, PortNarrows}
 use Rattle.type_taxonomy.specs.steps.NearestTests.{attribute_narrows_nearest, port_narrows_nearest}
 use Rattle.type_taxonomy.proofs.NearestCases.{attribute_passed, attribute_failed, port_passed, port_failed}

@@ -4,7 +4,7 @@ pub mod ByNameLaws
 pub mod Filling
 pub mod Finished
 pub mod FirstFault
-pub mod FormedLaws
+pub mod FewDeclarations
 pub mod Inherited
 pub mod Items
 pub mod Lines

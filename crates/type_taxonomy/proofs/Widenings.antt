@@ -14,7 +14,7 @@ use Rattle.type_taxonomy.specs.steps.ByName.{found}
 use Rattle.type_taxonomy.specs.steps.Above.{found_along, passes_nearest, IsAbove, attribute_passes, port_passes}
 use Rattle.type_taxonomy.specs.steps.Built.{attribute_narrows_at, port_narrows_at, NarrowsAll}
 use Rattle.base_laws.specs.Places.{IsAt}
-use Rattle.type_taxonomy.specs.steps.Firsts.{IsFirstFailing}
+use Rattle.type_taxonomy.specs.steps.FirstFailing.{IsFirstFailing}
 use Rattle.type_taxonomy.specs.steps.NearestTests.{lies_within, attribute_narrows_nearest, port_narrows_nearest}
 use Rattle.type_taxonomy.proofs.AboveLaws.{nearer}
 use Rattle.type_taxonomy.proofs.Items.{table_row}

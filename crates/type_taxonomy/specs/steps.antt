@@ -2,6 +2,6 @@ pub mod Above
 pub mod Built
 pub mod ByName
 pub mod Entries
-pub mod Firsts
+pub mod FirstFailing
 pub mod NearestTests
 pub mod TypeForest

@@ -3,7 +3,7 @@ ghost use Rattle.std.specs.Prelude.{◌≡◌, ◌<◌, ◌==◌, ◌^◌, not, 
 ghost use Rattle.std.specs.List.{list_any};
 ghost use Rattle.prod_model.specs.Forest.{is_in_circle};
 ghost use Rattle.type_taxonomy.specs.steps.Entries.{AreLines};
-ghost use Rattle.type_taxonomy.specs.steps.Firsts.{IsFirstFailing};
+ghost use Rattle.type_taxonomy.specs.steps.FirstFailing.{IsFirstFailing};
 
 use prod_model::{Items, Model};
 

@@ -4,7 +4,7 @@ ghost use Rattle.std.specs.Option.{option_map_or};
 ghost use Rattle.std.specs.List.{list_all};
 ghost use Rattle.prod_model.specs.Forest.{is_type};
 ghost use Rattle.prod_model.specs.Valid.{knows_types};
-ghost use Rattle.type_taxonomy.specs.steps.Firsts.{IsFirstFailing};
+ghost use Rattle.type_taxonomy.specs.steps.FirstFailing.{IsFirstFailing};
 
 use prod_model::{Model, PortDecl, TypeDecl};
 

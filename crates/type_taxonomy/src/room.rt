@@ -3,7 +3,7 @@ ghost use Rattle.std.specs.Prelude.{◌≡◌, ◌<◌, ◌&&◌, ◌^◌, nat_l
 ghost use Rattle.prod_model.specs.Limits.{most_attributes_of_type, most_ports_of_type};
 ghost use Rattle.prod_model.specs.Valid.{has_room_at};
 ghost use Rattle.type_taxonomy.specs.steps.Built.{IsBuilt};
-ghost use Rattle.type_taxonomy.specs.steps.Firsts.{IsFirstFailing};
+ghost use Rattle.type_taxonomy.specs.steps.FirstFailing.{IsFirstFailing};
 
 use crate::forest::Forest;
 use prod_model::limits::{MOST_ATTRIBUTES_OF_TYPE, MOST_PORTS_OF_TYPE};
@@ -34,7 +34,8 @@ fn has_room(forest: &Forest, t: u32) -> bool
 }
 
 fn has_room_for(attributes: usize, ports: usize) -> bool
-    ensures { result ≡ (nat_le attributes most_attributes_of_type && nat_le ports most_ports_of_type) }
+    ensures { result ≡ (nat_le attributes most_attributes_of_type
+        && nat_le ports most_ports_of_type) }
 {
     attributes <= MOST_ATTRIBUTES_OF_TYPE && ports <= MOST_PORTS_OF_TYPE
 }

@@ -6,7 +6,7 @@ ghost use Rattle.prod_model.specs.Forest.{ancestors};
 ghost use Rattle.type_taxonomy.specs.steps.Above.{attribute_passes, port_passes, IsAbove};
 ghost use Rattle.type_taxonomy.specs.steps.Built.{IsBuilt, NarrowsAll, IsWideningOf, IsFirstWidening};
 ghost use Rattle.base_laws.specs.Places.{IsAt};
-ghost use Rattle.type_taxonomy.specs.steps.Firsts.{IsFirstFailing};
+ghost use Rattle.type_taxonomy.specs.steps.FirstFailing.{IsFirstFailing};
 
 use crate::above::{Above, declared_above};
 use crate::fault::TaxFault;

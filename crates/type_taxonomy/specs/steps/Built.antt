@@ -8,7 +8,7 @@ use Rattle.type_taxonomy.specs.declared.fault.TaxFault.{TaxFault}
 use Rattle.type_taxonomy.specs.declared.fault.TaxFault.TheVariants.{Widening}
 use Rattle.type_taxonomy.specs.steps.Entries.{AreLines, AreRows}
 use Rattle.base_laws.specs.Places.{IsAt}
-use Rattle.type_taxonomy.specs.steps.Firsts.{IsFirstFailing}
+use Rattle.type_taxonomy.specs.steps.FirstFailing.{IsFirstFailing}
 use Rattle.type_taxonomy.specs.steps.NearestTests.{attribute_narrows_nearest, port_narrows_nearest}
 use Rattle.type_taxonomy.specs.steps.TypeForest.{IsForest}
 

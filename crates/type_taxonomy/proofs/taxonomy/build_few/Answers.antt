@@ -4,8 +4,8 @@ use Rattle.prod_model.specs.declared.model.TypeDecl.{TypeDecl}
 use Rattle.prod_model.specs.Valid.{has_room_at}
 use Rattle.type_taxonomy.specs.steps.Built.{NarrowsAll, IsFirstWidening}
 use Rattle.base_laws.specs.Places.{IsAt}
-use Rattle.type_taxonomy.specs.steps.Firsts.{IsFirstFailing}
-use Rattle.type_taxonomy.proofs.FormedLaws.{one_of_few}
+use Rattle.type_taxonomy.specs.steps.FirstFailing.{IsFirstFailing}
+use Rattle.type_taxonomy.proofs.FewDeclarations.{one_of_few}
 use Rattle.type_taxonomy.proofs.FirstFault.{HasRoomBelow, unknown_first, cycle_first, widening_first, crowded_first}
 use Rattle.type_taxonomy.proofs.TaxonomyFacts.{taxonomy_is, forest_is}
 use Rattle.type_taxonomy.proofs.taxonomy.build_few.Goals as goal
