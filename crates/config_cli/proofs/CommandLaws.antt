@@ -5,7 +5,8 @@ use Rattle.std.specs.declared.option.Option.{Option}
 use lib.Pointwise.{bytes_decides}
 use Rattle.prod_model.specs.Names.{same_text}
 use Rattle.cfg_io.specs.Causes.{Rose}
-use Rattle.config_cli.specs.Commands.{Configure, Asks, configure, AsksNothing, IsAskedFile, configure_names}
+use Rattle.config_cli.specs.Commands.{Configure, Asks, configure, AsksNothing, IsAskedFile}
+use Rattle.config_cli.specs.steps.Words.{configure_names}
 use Rattle.config_cli.specs.Runs.{HasReadFault}
 
 abbrev names_in : Option (List ℕ × List ℕ) → List ℕ × List ℕ

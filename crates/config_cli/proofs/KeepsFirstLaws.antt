@@ -9,7 +9,7 @@ use Rattle.std.specs.declared.cmp.Ordering.{Ordering}
 use Rattle.std.specs.declared.cmp.Ordering.TheVariants.{Less, Equal, Greater}
 use Rattle.std.specs.Ordering.{ordering_reverse, is_lt}
 use Rattle.std.specs.Cmp.{IsTotalOrder}
-use Rattle.config_cli.specs.Best.{Among, KeepsFirst}
+use Rattle.config_cli.specs.steps.BestFound.{Among, KeepsFirst}
 
 -- before says less
 less : (r : Ordering) → IsTrue (is_lt r) → r ≡ Less
@@ -49,7 +49,7 @@ module _ {A : Type 0} {order : A → A → Ordering} (total : IsTotalOrder order
   pub takes_one : {Is : A → Type 0} (best : Option A) (x : A) → Is x → ((y : A) → Is y → y ≡ x)
       → ((z : A) → best ≡ Some z → IsBefore x z)
       → KeepsFirst order Is best (Some x)
-  takes_one {Is} best x is alone before = record {
+  takes_one {Is} best x is only before = record {
     first = λ y e.
         let same = same_Some x y e in
         record { is = inr (subst Is same is); none_before = λ z among h. unbeaten z among (ap (λ w. is_lt (order z w)) same ∙ h) };
@@ -58,12 +58,12 @@ module _ {A : Type 0} {order : A → A → Ordering} (total : IsTotalOrder order
     where
       unbeaten : (z : A) → Among best Is z → ¬ IsBefore z x
       unbeaten z (inl f) h = irreflexive x (ap is_lt (total.trans x z x (less _ (before z f)) (less _ h)))
-      unbeaten z (inr other) h = irreflexive x (sym (ap (λ w. is_lt (order w x)) (alone z other)) ∙ h)
+      unbeaten z (inr other) h = irreflexive x (sym (ap (λ w. is_lt (order w x)) (only z other)) ∙ h)
 
   -- over one x alone, which is not before the best, the best stays
   pub keeps_over_one : {Is : A → Type 0} (best x : A) → ((y : A) → Is y → y ≡ x) → ¬ IsBefore x best
       → KeepsFirst order Is (Some best) (Some best)
-  keeps_over_one {Is} best x alone unbeaten = record {
+  keeps_over_one {Is} best x only unbeaten = record {
     first = λ y e.
         let same = same_Some best y e in
         record { is = inl e; none_before = λ z among h. none_before z among (ap (λ w. is_lt (order z w)) same ∙ h) };
@@ -72,7 +72,7 @@ module _ {A : Type 0} {order : A → A → Ordering} (total : IsTotalOrder order
     where
       none_before : (z : A) → Among (Some best) Is z → ¬ IsBefore z best
       none_before z (inl f) h = irreflexive best (ap (λ w. is_lt (order w best)) (same_Some best z f) ∙ h)
-      none_before z (inr other) h = unbeaten (sym (ap (λ w. is_lt (order w best)) (alone z other)) ∙ h)
+      none_before z (inr other) h = unbeaten (sym (ap (λ w. is_lt (order w best)) (only z other)) ∙ h)
 
   -- over the same set it is the same
   pub keeps_over_same : {Is Are : A → Type 0} (old new : Option A) → ((x : A) → Is x ↔ Are x)

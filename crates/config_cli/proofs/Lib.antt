@@ -5,8 +5,8 @@ pub mod WalkLaws
 pub mod SideLaws
 pub mod OneType
 pub mod OneTypeAttributes
-pub mod AloneLaws
-pub mod RankAloneLaws
+pub mod OneInstanceLaws
+pub mod OneInstanceRanks
 pub mod PreferredLaws
 pub mod CommandLaws
 pub mod OutcomeLaws

@@ -7,10 +7,10 @@ use Rattle.std.specs.Ordering.{is_lt}
 use Rattle.std.specs.declared.option.Option.{Option}
 use Rattle.prod_model.specs.declared.model.Criterion.{Criterion}
 use Rattle.prod_model.specs.declared.model.Rule.{Rule}
-use Rattle.config_cli.specs.declared.walk.best.Best.{Best}
-use Rattle.config_cli.specs.Sides.{meets_rules, values_order}
-use Rattle.config_cli.specs.Best.{best_of, gives_way, KeepsFirst}
-use Rattle.config_cli.specs.Walk.{IsMet}
+use Rattle.config_cli.specs.declared.walk.best_found.BestFound.{BestFound}
+use Rattle.config_cli.specs.steps.Sides.{meets_rules, values_order}
+use Rattle.config_cli.specs.steps.BestFound.{best_of, gives_way, KeepsFirst}
+use Rattle.config_cli.specs.steps.Walk.{IsMet}
 use Rattle.config_cli.proofs.KeepsFirstLaws.{keeps_over_none, keeps_over_one, takes_one}
 use Rattle.config_cli.proofs.ValuesOrderLaws.{values_order_total}
 
@@ -20,12 +20,12 @@ module _ (rules : List Rule) (criteria : List Criterion) (values : List ℤ) whe
   Keeps = KeepsFirst (values_order criteria) (IsMet rules values)
 
   -- values that break a rule change nothing
-  pub unmet : (b : Best) → meets_rules values rules ≡ false → Keeps (best_of b) (best_of b)
+  pub unmet : (b : BestFound) → meets_rules values rules ≡ false → Keeps (best_of b) (best_of b)
   unmet b broken = keeps_over_none (values_order_total criteria) (best_of b)
       (λ x is. true≢false (sym is.met ∙ ap (λ vs. meets_rules vs rules) is.same ∙ broken))
 
   -- values that meet the rules, and are before the best if there is any, become the best
-  pub taken : (b : Best) → IsTrue (meets_rules values rules) → IsTrue (gives_way b criteria values) → Keeps (best_of b) (Some values)
+  pub taken : (b : BestFound) → IsTrue (meets_rules values rules) → IsTrue (gives_way b criteria values) → Keeps (best_of b) (Some values)
   taken b met way =
       takes_one (values_order_total criteria) (best_of b) values (record { same = refl; met = met }) (λ y is. is.same) (before b.found way)
     where
@@ -35,7 +35,7 @@ module _ (rules : List Rule) (criteria : List Criterion) (values : List ℤ) whe
       before false h z e = absurd (none-some z e)
 
   -- the best stays where it doesn't give way
-  pub beaten : (b : Best) → gives_way b criteria values ≡ false → Keeps (best_of b) (best_of b)
+  pub beaten : (b : BestFound) → gives_way b criteria values ≡ false → Keeps (best_of b) (best_of b)
   beaten b stays = kept b.found stays
     where
       kept : (found : Bool) → (not found || is_lt (values_order criteria values b.values.items)) ≡ false

@@ -22,7 +22,8 @@ use Rattle.model_reader.specs.PlainFile.{plain_side}
 use Rattle.model_reader.proofs.StepLaws.{first_holds, second_holds, both_hold, some_same, provided_test, provided_value, mapped, found_then, all_of_pass, list_all_by}
 use Rattle.model_reader.proofs.SideLaws.{IsSide, side}
 use Rattle.model_reader.proofs.PlainLaws.{attributes_at_plain, sound_attributes, root_is_first}
-use Rattle.config_cli.specs.PlainOrder.{plain_aim, plain_criterion, plain_order, is_plain_order, attributes_declared}
+use Rattle.config_cli.specs.PlainOrder.{plain_aim, plain_criterion, plain_order, attributes_declared}
+use Rattle.config_cli.specs.steps.Sides.{is_plain_order}
 
 module _ (m : Model) (plain : is_plain m ≡ true) (valid : IsValid m) where
   side_of_aim : (d : Data) (aim : Bool × Expr) → plain_aim (attributes_declared m) d ≡ Some aim → IsSide m aim.1

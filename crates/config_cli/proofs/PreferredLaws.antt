@@ -26,14 +26,14 @@ use Rattle.config_value.specs.Satisfies.{IsCandidate, meets, meets_kept, all_kep
 use Rattle.config_value.specs.Rank.{RanksBefore}
 use Rattle.config_value.specs.Preferred.{IsPreferred}
 use Rattle.model_reader.specs.Plain.{is_plain, is_plain_side}
-use Rattle.config_cli.specs.Sides.{values_order}
-use Rattle.config_cli.specs.Best.{Among}
-use Rattle.config_cli.specs.Walk.{is_in_ranges, alone, IsChoice, FindsFirst}
+use Rattle.config_cli.specs.steps.Sides.{values_order}
+use Rattle.config_cli.specs.steps.BestFound.{Among}
+use Rattle.config_cli.specs.steps.Walk.{is_in_ranges, one_instance, IsChoice, FindsFirst}
 use Rattle.config_cli.proofs.OneType.{IsPlainParts, one_type, one_type_of}
 use Rattle.config_cli.proofs.OneTypeAttributes.{made, attributes_at_one_type, value_of_one_type}
 use Rattle.config_cli.proofs.WalkLaws.{int_le_true, int_le_from, no_word}
-use Rattle.config_cli.proofs.AloneLaws.{leaf_type, long, values_long, choice_satisfies, satisfied_choice}
-use Rattle.config_cli.proofs.RankAloneLaws.{rank_order_alone}
+use Rattle.config_cli.proofs.OneInstanceLaws.{leaf_type, long, values_long, choice_satisfies, satisfied_choice}
+use Rattle.config_cli.proofs.OneInstanceRanks.{rank_order_one_instance}
 
 -- the first values found for the model and the order
 abbrev pub WalkFinds : Model → Order → Option (List ℤ) → Type 0
@@ -92,18 +92,18 @@ module _ (instances : ℕ) (name : List ℕ) (attributes : List AttrDecl) (rules
   unfolding meets_kept
   all_met c = ap (λ rs. pointwise (λ kept r. not kept || meets m c r) (map (λ r. true) rs) rs) no_requests
 
-  candidate : (values : List ℤ) → Chosen values → IsCandidate m o (all_kept o) (alone values)
-  candidate values c = record { satisfied = choice_satisfies instances name attributes rules parts values c; met = all_met (alone values) }
+  candidate : (values : List ℤ) → Chosen values → IsCandidate m o (all_kept o) (one_instance values)
+  candidate values c = record { satisfied = choice_satisfies instances name attributes rules parts values c; met = all_met (one_instance values) }
 
   -- what ranks before among them comes first by its values
   comes_first : (xs ys : List ℤ) → Chosen xs → Chosen ys
-      → RanksBefore m o (alone xs) (alone ys) → IsTrue (is_lt (values_order o.criteria xs ys))
+      → RanksBefore m o (one_instance xs) (one_instance ys) → IsTrue (is_lt (values_order o.criteria xs ys))
   comes_first xs ys c d h =
       let reads_xs = value_of_one_type instances name attributes rules xs (as_long xs c) in
       let reads_ys = value_of_one_type instances name attributes rules ys (as_long ys d) in
-      ap is_lt (sym (rank_order_alone m xs ys reads_xs reads_ys o sides)) ∙ h
+      ap is_lt (sym (rank_order_one_instance m xs ys reads_xs reads_ys o sides)) ∙ h
 
-  preferred : (values : List ℤ) → WalkFinds m o (Some values) → IsPreferred m o (all_kept o) (alone values)
+  preferred : (values : List ℤ) → WalkFinds m o (Some values) → IsPreferred m o (all_kept o) (one_instance values)
   preferred values finds =
       let first = finds.first values refl in
       let chosen = choice first.is in
@@ -111,7 +111,7 @@ module _ (instances : ℕ) (name : List ℕ) (attributes : List AttrDecl) (rules
         is = candidate values chosen;
         none_before = λ d other h.
             let found = satisfied_choice instances name attributes rules parts d other.satisfied in
-            let before = subst (λ e. RanksBefore m o e (alone values)) found.1 h in
+            let before = subst (λ e. RanksBefore m o e (one_instance values)) found.1 h in
             first.none_before found.0 (inr found.2) (comes_first found.0 values found.2 chosen before);
       }
     where
@@ -124,12 +124,12 @@ module _ (instances : ℕ) (name : List ℕ) (attributes : List AttrDecl) (rules
       let found = satisfied_choice instances name attributes rules parts c is.satisfied in
       finds.none refl found.0 (inr found.2)
 
-  spelled : (values : List ℤ) → WalkFinds m o (Some values) → IsTrue (is_spelled m (alone values))
+  spelled : (values : List ℤ) → WalkFinds m o (Some values) → IsTrue (is_spelled m (one_instance values))
   unfolding is_spelled
   spelled values finds =
       elim (finds.first values refl).is [ inl e ↦ absurd (none-some values e) | inr c ↦ written c ]
     where
-      written : Chosen values → IsTrue (is_spelled m (alone values))
+      written : Chosen values → IsTrue (is_spelled m (one_instance values))
       written c =
           let is = attributes_at_one_type instances name attributes rules in
           let among = in_ranges values c in
@@ -140,8 +140,8 @@ module _ (instances : ℕ) (name : List ℕ) (attributes : List AttrDecl) (rules
 
 -- What the walk finds in a plain model is preferred and can be written, and where it finds nothing there is no candidate.
 pub record IsPreferredPlain (m : Model) (o : Order) : Type 0 where
-  pub preferred : (values : List ℤ) → WalkFinds m o (Some values) → IsPreferred m o (all_kept o) (alone values)
-  pub spelled : (values : List ℤ) → WalkFinds m o (Some values) → IsTrue (is_spelled m (alone values))
+  pub preferred : (values : List ℤ) → WalkFinds m o (Some values) → IsPreferred m o (all_kept o) (one_instance values)
+  pub spelled : (values : List ℤ) → WalkFinds m o (Some values) → IsTrue (is_spelled m (one_instance values))
   pub none : WalkFinds m o None → (c : List Instance) → ¬ IsCandidate m o (all_kept o) c
 
 pub is_preferred_plain : (m : Model) (o : Order) → IsTrue (is_plain m) → IsValid m → o.requests ≡ []

@@ -10,34 +10,34 @@ use Rattle.prod_model.specs.declared.expr.Expr.TheFolds.{fold-Expr, fold_out-Exp
 use Rattle.config_value.specs.declared.found.Found.{Found}
 use Rattle.config_value.specs.Value.{value_at, layer_value, value_of, as_number, as_truth, number_at, is_true_at, holds}
 use Rattle.model_reader.specs.Plain.{is_plain_side, is_plain_comparison}
-use Rattle.config_cli.specs.Sides.{side_value, is_met}
-use Rattle.config_cli.specs.Walk.{alone}
+use Rattle.config_cli.specs.steps.Sides.{side_value, is_met}
+use Rattle.config_cli.specs.steps.Walk.{one_instance}
 
 module _ (m : Model) (values : List ℤ)
     (reads : (a : ℕ) → value_of m (record { kind = 0; values = values; links = [] }) a ≡ slice_index_or values a (pos 0)) where
   values_of : Expr → ℕ → Found
-  values_of = fold-Expr (ℕ → Found) (layer_value m (alone values))
+  values_of = fold-Expr (ℕ → Found) (layer_value m (one_instance values))
 
   -- a plain side is the number that the values give it
-  pub number_at_alone : (e : Expr) → IsTrue (is_plain_side (out-Expr e)) → number_at m (alone values) 0 e ≡ side_value values (out-Expr e)
+  pub number_at_one_instance : (e : Expr) → IsTrue (is_plain_side (out-Expr e)) → number_at m (one_instance values) 0 e ≡ side_value values (out-Expr e)
   unfolding value_at values_of
-  number_at_alone e plain =
-      ap (λ (f : ℕ → Found). as_number (f 0)) (fold_out-Expr (ℕ → Found) (layer_value m (alone values)) e) ∙ of_form (out-Expr e) plain
+  number_at_one_instance e plain =
+      ap (λ (f : ℕ → Found). as_number (f 0)) (fold_out-Expr (ℕ → Found) (layer_value m (one_instance values)) e) ∙ of_form (out-Expr e) plain
     where
       of_form : (l : Expr-F Expr) → IsTrue (is_plain_side l)
-          → as_number (layer_value m (alone values) (map-Expr Expr (ℕ → Found) values_of l) 0) ≡ side_value values l
+          → as_number (layer_value m (one_instance values) (map-Expr Expr (ℕ → Found) values_of l) 0) ≡ side_value values l
       of_form (Num n) h = refl
       of_form (Attr a) h = reads a
       of_form _ h = absurd (true≢false (sym h))
 
   -- a plain comparison is true where it is met
-  pub is_true_at_alone : (e : Expr) → IsTrue (is_plain_comparison (out-Expr e)) → is_true_at m (alone values) 0 e ≡ is_met values (out-Expr e)
+  pub is_true_at_one_instance : (e : Expr) → IsTrue (is_plain_comparison (out-Expr e)) → is_true_at m (one_instance values) 0 e ≡ is_met values (out-Expr e)
   unfolding value_at values_of
-  is_true_at_alone e plain =
-      ap (λ (f : ℕ → Found). as_truth (f 0)) (fold_out-Expr (ℕ → Found) (layer_value m (alone values)) e) ∙ of_form (out-Expr e) plain
+  is_true_at_one_instance e plain =
+      ap (λ (f : ℕ → Found). as_truth (f 0)) (fold_out-Expr (ℕ → Found) (layer_value m (one_instance values)) e) ∙ of_form (out-Expr e) plain
     where
       of_form : (l : Expr-F Expr) → IsTrue (is_plain_comparison l)
-          → as_truth (layer_value m (alone values) (map-Expr Expr (ℕ → Found) values_of l) 0) ≡ is_met values l
+          → as_truth (layer_value m (one_instance values) (map-Expr Expr (ℕ → Found) values_of l) 0) ≡ is_met values l
       of_form (Cmp r x y) h =
-          let sides = and_parts _ _ h in ap₂ (holds r) (number_at_alone x sides.0) (number_at_alone y sides.1)
+          let sides = and_parts _ _ h in ap₂ (holds r) (number_at_one_instance x sides.0) (number_at_one_instance y sides.1)
       of_form _ h = absurd (true≢false (sym h))

@@ -5,7 +5,7 @@ use Rattle.std.specs.Ordering.{int_cmp}
 use Rattle.std.specs.Cmp.{IsTotalOrder}
 use Rattle.prod_model.specs.declared.expr.Expr.TheViews.{out-Expr}
 use Rattle.prod_model.specs.declared.model.Criterion.{Criterion}
-use Rattle.config_cli.specs.Sides.{side_value, criteria_order, values_order}
+use Rattle.config_cli.specs.steps.Sides.{side_value, criteria_order, values_order}
 
 -- the order by one criterion, either way
 one_total : (maximise : Bool) (f : List ℤ → ℤ) → IsTotalOrder (λ xs ys. if maximise then int_cmp (f ys) (f xs) else int_cmp (f xs) (f ys))

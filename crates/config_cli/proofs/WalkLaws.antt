@@ -10,9 +10,9 @@ use Rattle.prod_model.specs.declared.model.Rule.{Rule}
 use Rattle.prod_model.specs.declared.model.Domain.{Domain}
 use Rattle.prod_model.specs.declared.model.Domain.TheVariants.{Range, Words}
 use Rattle.config_value.specs.Shaped.{is_in}
-use Rattle.config_cli.specs.Sides.{values_order}
-use Rattle.config_cli.specs.Best.{KeepsFirst}
-use Rattle.config_cli.specs.Walk.{is_in_ranges, IsBetween, IsMet, IsChoice, IsChoiceNext}
+use Rattle.config_cli.specs.steps.Sides.{values_order}
+use Rattle.config_cli.specs.steps.BestFound.{KeepsFirst}
+use Rattle.config_cli.specs.steps.Walk.{is_in_ranges, IsBetween, IsMet, IsChoice, IsChoiceNext}
 use Rattle.config_cli.proofs.KeepsFirstLaws.{keeps_over_none, keeps_over_same, keeps_over_both}
 use Rattle.config_cli.proofs.ValuesOrderLaws.{values_order_total}
 

@@ -1,7 +1,5 @@
 -- What the words of the command line ask for.
-use Rattle.std.specs.Prelude.{◌≡◌, List, [], ◌∷◌, ℕ, Contains, codes, Some, None, if◌then◌else◌}
-use Rattle.std.specs.declared.option.Option.{Option}
-use Rattle.prod_model.specs.Names.{same_text}
+use Rattle.std.specs.Prelude.{◌≡◌, List, [], ◌∷◌, ℕ, Contains, codes}
 
 -- to configure a product, by the names of the model's and the order's file
 pub data Command : Type 0 where
@@ -9,7 +7,8 @@ pub data Command : Type 0 where
 
 -- the words are one of the accepted forms
 pub data Asks (words : List (List ℕ)) : Command → Type 0 where
-  configure : (model order : List ℕ) → words ≡ codes "configure" ∷ model ∷ order ∷ [] → Asks words (Configure model order)
+  configure : (model order : List ℕ) → words ≡ codes "configure" ∷ model ∷ order ∷ []
+      → Asks words (Configure model order)
 
 -- they are none of the accepted forms
 abbrev pub AsksNothing : List (List ℕ) → Type 0
@@ -28,8 +27,3 @@ pub record IsAskedFile (words : List (List ℕ)) (name : List ℕ) : Type 0 wher
 -- they ask to read no file
 abbrev pub AsksForNoFile : List (List ℕ) → Type 0
 AsksForNoFile words = (name : List ℕ) → ¬ IsAskedFile words name
-
--- the names of the two files, where the words are `configure MODEL ORDER`
-abbrev pub configure_names : List (List ℕ) → Option (List ℕ × List ℕ)
-configure_names (command ∷ model ∷ order ∷ []) = if same_text command (codes "configure") then Some (model, order) else None
-configure_names _ = None

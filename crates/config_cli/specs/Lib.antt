@@ -1,9 +1,7 @@
-pub mod Sides
-pub mod Best
-pub mod Walk
 pub mod Commands
 pub mod PlainOrder
 pub mod Texts
+pub mod Statuses
 pub mod Results
-pub mod Fetched
 pub mod Runs
+pub mod steps

@@ -1,4 +1,4 @@
--- What words and files result in: a status from 0 to 3, and a text.
+-- What words and files result in: a status and a text.
 use Rattle.std.specs.Prelude.{◌≡◌, ℕ, ◌+◌, Bool, true, false, List, [], ◌∷◌, Some, codes}
 use Rattle.prod_model.specs.declared.model.Model.{Model}
 use Rattle.prod_model.specs.declared.model.Order.{Order}
@@ -14,6 +14,8 @@ use Rattle.cfg_io.specs.Shelves.{file}
 use Rattle.config_cli.specs.Commands.{Configure, Asks, AsksNothing}
 use Rattle.config_cli.specs.PlainOrder.{plain_order, attributes_declared}
 use Rattle.config_cli.specs.Texts.{usage_text, refused_text}
+use Rattle.config_cli.specs.declared.status.Status.{Status}
+use Rattle.config_cli.specs.declared.status.Status.TheVariants.{Preferred, Conflict, Usage, Refused}
 
 -- the places of the requests that a set keeps, from a first place on
 abbrev pub places_kept : ℕ → List Bool → List ℕ
@@ -21,24 +23,35 @@ places_kept from [] = []
 places_kept from (true ∷ keep) = from ∷ places_kept (from + 1) keep
 places_kept from (false ∷ keep) = places_kept (from + 1) keep
 
--- the configuration that is preferred for all requests; or, where there is none, the preferred conflict
-pub data IsBest (m : Model) (o : Order) (status : ℕ) (text : List ℕ) : Type 0 where
-  preferred : (c : List Instance) → IsPreferred m o (all_kept o) c → status ≡ 0 → text ≡ answer_text m c → IsBest m o status text
-  conflict : (keep : List Bool) → IsPreferredConflict m o keep → status ≡ 1 → text ≡ conflict_text o (places_kept 0 keep) → IsBest m o status text
+-- the configuration that is preferred for all requests; or, where there is none, the preferred
+-- conflict
+pub data IsPreferredOutcome (m : Model) (o : Order) (status : Status) (text : List ℕ) : Type 0 where
+  preferred : (c : List Instance) → IsPreferred m o (all_kept o) c
+      → status ≡ Preferred → text ≡ answer_text m c → IsPreferredOutcome m o status text
+  conflict : (keep : List Bool) → IsPreferredConflict m o keep
+      → status ≡ Conflict → text ≡ conflict_text o (places_kept 0 keep)
+      → IsPreferredOutcome m o status text
 
--- What the bytes of a model and an order result in: the fault of the model, else that of the order, else what is best.
-pub data IsConfigured (model order : List ℕ) (status : ℕ) (text : List ℕ) : Type 0 where
+-- What the bytes of a model and an order result in: the fault of the model, else that of the
+-- order, else the preferred outcome.
+pub data IsConfigured (model order : List ℕ) (status : Status) (text : List ℕ) : Type 0 where
   refused_model : (code : ℕ) → IsFaultOf plain_model model code
-      → status ≡ 3 → text ≡ refused_text (codes "model") code → IsConfigured model order status text
+      → status ≡ Refused → text ≡ refused_text (codes "model") code
+      → IsConfigured model order status text
   refused_order : (m : Model) → IsFileOf plain_model model m
       → (code : ℕ) → IsFaultOf (plain_order (attributes_declared m)) order code
-      → status ≡ 3 → text ≡ refused_text (codes "order") code → IsConfigured model order status text
-  best : (m : Model) → IsFileOf plain_model model m → (o : Order) → IsFileOf (plain_order (attributes_declared m)) order o
-      → IsBest m o status text → IsConfigured model order status text
+      → status ≡ Refused → text ≡ refused_text (codes "order") code
+      → IsConfigured model order status text
+  preferred_outcome : (m : Model) → IsFileOf plain_model model m
+      → (o : Order) → IsFileOf (plain_order (attributes_declared m)) order o
+      → IsPreferredOutcome m o status text → IsConfigured model order status text
 
 -- What words and named files result in. Nothing where a file that they ask for isn't there.
-pub data IsResult (words : List (List ℕ)) (files : List (List ℕ × List ℕ)) (status : ℕ) (text : List ℕ) : Type 0 where
-  refused_words : AsksNothing words → status ≡ 2 → text ≡ usage_text → IsResult words files status text
+pub data IsResult (words : List (List ℕ)) (files : List (List ℕ × List ℕ))
+    (status : Status) (text : List ℕ) : Type 0 where
+  refused_words : AsksNothing words → status ≡ Usage → text ≡ usage_text
+      → IsResult words files status text
   configured : (model order : List ℕ) → Asks words (Configure model order)
-      → (model_bytes order_bytes : List ℕ) → file model files ≡ Some model_bytes → file order files ≡ Some order_bytes
+      → (model_bytes order_bytes : List ℕ)
+      → file model files ≡ Some model_bytes → file order files ≡ Some order_bytes
       → IsConfigured model_bytes order_bytes status text → IsResult words files status text

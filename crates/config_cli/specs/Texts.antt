@@ -4,7 +4,9 @@ use Rattle.canonical_form.specs.AnswerText.{line_end}
 
 -- the line for words that are none of the accepted forms
 unfoldable pub usage_text : List ℕ
-usage_text = codes "usage: config_cli configure MODEL ORDER [--workers W] | check MODEL ORDER ANSWER | demo N [--workers W]" ++ line_end
+usage_text =
+    codes "usage: config_cli configure MODEL ORDER [--workers W]"
+    ++ codes " | check MODEL ORDER ANSWER | demo N [--workers W]" ++ line_end
 
 -- `F` and two digits
 abbrev pub code_text : ℕ → List ℕ
@@ -12,4 +14,5 @@ code_text code = codes "F" ++ (48 + code / 10) ∷ (48 + code % 10) ∷ []
 
 -- a refused file, the code of its fault, and the place of the whole document
 unfoldable pub refused_text : List ℕ → ℕ → List ℕ
-refused_text file code = codes "refused " ++ file ++ codes " " ++ code_text code ++ codes " /" ++ line_end
+refused_text file code =
+    codes "refused " ++ file ++ codes " " ++ code_text code ++ codes " /" ++ line_end

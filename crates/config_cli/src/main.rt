@@ -1,4 +1,5 @@
-//! Configures products: reads a product model and an order, and prints the preferred configuration or the preferred conflict.
+//! Configures products: reads a product model and an order, and prints the preferred configuration
+//! or the preferred conflict.
 #![tactic(auto)]
 
 ghost use Rattle.std.specs.Prelude.{◌≡◌, ◌⊎◌};
@@ -7,6 +8,7 @@ mod commands;
 mod order;
 mod outcome;
 mod run;
+mod status;
 mod texts;
 mod walk;
 #[cfg(test)]
@@ -14,6 +16,7 @@ mod worked;
 
 use cfg_io::{DiskShelf, OutSink};
 pub use run::run_alone;
+pub use status::Status;
 use std::alloc::{AllocError, Global};
 use std::env::{self, Env};
 use std::io::{self, ErrorKind};
@@ -25,14 +28,14 @@ fn command_words<R: Env + Alloc<A = Global>>(rt: &R) -> io::Result<Vec<String>> 
     Ok(words)
 }
 
-// The status where the words can't be got: 6 for want of memory, and else 7.
-fn status_without_words(error: &io::Error) -> u8
-    ensures { (result ≡ 6) ⊎ (result ≡ 7) }
+// The status where the words can't be got: for want of memory, or else.
+fn status_without_words(error: &io::Error) -> Status
+    ensures { (result ≡ Status.OutOfMemory) ⊎ (result ≡ Status.NoWords) }
 {
     if error.kind() == ErrorKind::OutOfMemory {
-        6
+        Status::OutOfMemory
     } else {
-        7
+        Status::NoWords
     }
 }
 
@@ -40,9 +43,26 @@ fn status_without_words(error: &io::Error) -> u8
 fn main(rt: HostRuntime) -> ExitCode {
     let words = match command_words(&rt) {
         Ok(words) => words,
-        Err(error) => return ExitCode::from(status_without_words(&error)),
+        Err(error) => return ExitCode::from(status_without_words(&error).number()),
     };
     let mut shelf = DiskShelf::new(rt.alloc(), &rt);
     let mut out = OutSink::new(io::writer(&rt));
-    ExitCode::from(run_alone(rt.alloc(), &words, &mut shelf, &mut out))
+    ExitCode::from(run_alone(rt.alloc(), &words, &mut shelf, &mut out).number())
+}
+
+#[cfg(test)]
+mod tests {
+    use super::*;
+
+    #[test]
+    fn tells_want_of_memory_from_other_causes(rt: HostRuntime) {
+        for (kind, number) in [
+            (ErrorKind::OutOfMemory, 6),
+            (ErrorKind::InvalidData, 7),
+            (ErrorKind::Other, 7),
+        ] {
+            let status = status_without_words(&io::Error::from(kind));
+            assert_eq!(rt; status.number(), number, "{status:?}");
+        }
+    }
 }

@@ -7,7 +7,8 @@ ghost use Rattle.model_reader.specs.Plain.{is_plain};
 ghost use Rattle.model_reader.specs.declared.unread.Unread.TheVariants.{Other};
 ghost use Rattle.model_reader.specs.Files.{IsFileOf, all_of};
 ghost use Rattle.model_reader.specs.Refused.{RefusesFile};
-ghost use Rattle.config_cli.specs.PlainOrder.{plain_aim, plain_criterion, plain_order, is_plain_order, attributes_declared};
+ghost use Rattle.config_cli.specs.PlainOrder.{plain_aim, plain_criterion, plain_order, attributes_declared};
+ghost use Rattle.config_cli.specs.steps.Sides.{is_plain_order};
 
 use model_reader::{
     Attributes, Names, Refusal, Unread, attributes_declared, has_only, is_name, list_at,
@@ -65,7 +66,8 @@ fn all_criteria(
 ) -> Result<Items<Criterion>, Unread>
     ensures value { IfOk result
         (λ criteria. all_of (plain_criterion attributes.now) (map view list.now) ≡ Some criteria) }
-    ensures other { result ≡ Err Other → all_of (plain_criterion attributes.now) (map view list.now) ≡ None }
+    ensures other { result ≡ Err Other
+        → all_of (plain_criterion attributes.now) (map view list.now) ≡ None }
 {
     let mut criteria = Items::new(alloc);
     for value in list {
@@ -127,14 +129,16 @@ fn attributes_of(alloc: Global, problem: &Problem) -> Result<Attributes<'_>, All
 
 /// Reads a plain order for a plain model.
 ///
-/// Fault 1 comes where the file has more than 4,194,304 bytes, else fault 2 where it is no JSON text, and else fault 90
-/// where its value stands for no plain order.
+/// Fault 1 comes where the file has more than 4,194,304 bytes, else fault 2 where it is no JSON
+/// text, and else fault 90 where its value stands for no plain order.
 pub fn read_order(alloc: Global, problem: &Problem, bytes: &[u8]) -> Result<Order, Refusal>
     requires plain { IsTrue (is_plain problem.now) }
     ensures valid { IfOk result (λ o. IsValidOrder problem.now o) }
     ensures plain { IfOk result (λ o. IsTrue (is_plain_order o)) }
-    ensures order { IfOk result (λ o. IsFileOf (plain_order (attributes_declared problem.now)) bytes.now o) }
-    ensures fault { IfErr result (λ e. RefusesFile (plain_order (attributes_declared problem.now)) bytes.now e) }
+    ensures order { IfOk result (λ o.
+        IsFileOf (plain_order (attributes_declared problem.now)) bytes.now o) }
+    ensures fault { IfErr result (λ e.
+        RefusesFile (plain_order (attributes_declared problem.now)) bytes.now e) }
 {
     let value = value_of(alloc, bytes)?;
     let attributes = match attributes_of(alloc, problem) {

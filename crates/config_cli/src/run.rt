@@ -1,23 +1,24 @@
 // The run of a command: its files are read, and the text of what they result in is written.
-ghost use Rattle.std.specs.Prelude.{◌≡◌, ◌≢◌, ◌⊎◌, ℕ, ◌<◌, ◌≤◌, List, [], Some, IfOk};
+ghost use Rattle.std.specs.Prelude.{◌≡◌, ◌≢◌, ◌⊎◌, ℕ, ◌≤◌, List, [], IfOk};
 ghost use Rattle.std.specs.Option.{ForSome};
 ghost use Rattle.cfg_io.specs.Causes.{Rose};
-ghost use Rattle.cfg_io.specs.Shelves.{file};
 ghost use Rattle.config_cli.specs.Commands.{AsksForNoFile, AsksNothing, IsAskedFile};
-ghost use Rattle.config_cli.specs.Fetched.{IsFetchOf};
 ghost use Rattle.config_cli.specs.Results.{IsResult};
-ghost use Rattle.config_cli.specs.Runs.{HasReadFault, IsExactly, IsOfFiles, Writes, status_of, texts};
+ghost use Rattle.config_cli.specs.Runs.{HasReadFault, Writes, texts};
+ghost use Rattle.config_cli.specs.steps.Calls.{IsExactly, IsOfFiles, status_of};
+ghost use Rattle.config_cli.specs.steps.Fetched.{IsFetchAt};
 
 use crate::commands::configure_names;
 use crate::outcome::{Fetched, configured};
+use crate::status::Status;
 use cfg_io::{ReadError, Shelf, Sink, WriteError};
 use std::alloc::Global;
 
 /// The most bytes of a file.
 const MOST_BYTES: usize = 4_194_304;
 
-const USAGE: &str =
-    "usage: config_cli configure MODEL ORDER [--workers W] | check MODEL ORDER ANSWER | demo N [--workers W]\n";
+const USAGE: &str = "usage: config_cli configure MODEL ORDER [--workers W] \
+    | check MODEL ORDER ANSWER | demo N [--workers W]\n";
 
 /// Why a file was not read.
 #[derive(Drop)]
@@ -27,12 +28,12 @@ enum Stop {
 }
 
 impl Stop {
-    fn status(self) -> u8
+    fn status(self) -> Status
         ensures { result ≡ status_of self }
     {
         match self {
-            Stop::Failed => 4,
-            Stop::Memory => 6,
+            Stop::Failed => Status::ReadFailed,
+            Stop::Memory => Status::OutOfMemory,
         }
     }
 }
@@ -40,8 +41,12 @@ impl Stop {
 // Reads a file, as far as a file may go.
 fn fetch<S: Shelf>(shelf: &mut S, name: &str) -> Result<Fetched, Stop>
     ensures same { S.files shelf.new ≡ S.files shelf.old }
-    ensures fetched { IfOk result (λ found. ForSome (S.files shelf.old) (λ fs. (bytes : List ℕ) × (file name.now fs ≡ Some bytes) × IsFetchOf bytes found)) }
-    ensures failed { result ≡ Err Stop.Failed → Rose (S.faults shelf.old name.now) (S.faults shelf.new name.now) }
+    ensures fetched { IfOk result (λ found.
+        ForSome (S.files shelf.old) (λ fs. IsFetchAt fs name.now found)) }
+    ensures failed { result ≡ Err Stop.Failed
+        → Rose (S.faults shelf.old name.now) (S.faults shelf.new name.now) }
+    ensures uncounted { result ≢ Err Stop.Failed
+        → (n : List ℕ) → S.faults shelf.new n ≡ S.faults shelf.old n }
     ensures later { (n : List ℕ) → S.faults shelf.old n ≤ S.faults shelf.new n }
     ensures others { (n : List ℕ) → n ≢ name.now → S.faults shelf.new n ≡ S.faults shelf.old n }
 {
@@ -54,17 +59,22 @@ fn fetch<S: Shelf>(shelf: &mut S, name: &str) -> Result<Fetched, Stop>
 }
 
 // Writes the text, and gives its status or that of the write's failure.
-fn say<K: Sink>(out: &mut K, status: u8, text: &[u8]) -> u8
-    ensures written { Writes (IsExactly status text.now) (K.written out.old) (K.written out.new) result }
-    ensures status { (result ≡ status) ⊎ ((result ≡ 5) ⊎ (result ≡ 6)) }
-    ensures failed { result ≡ 5 → status ≢ 5 → Rose (K.faults out.old) (K.faults out.new) }
-    ensures nothing { result ≡ 6 → status ≢ 6 → K.written out.new ≡ K.written out.old }
+fn say<K: Sink>(out: &mut K, status: Status, text: &[u8]) -> Status
+    ensures written { Writes (IsExactly status text.now)
+        (K.written out.old) (K.written out.new) result }
+    ensures status { (result ≡ status)
+        ⊎ ((result ≡ Status.WriteFailed) ⊎ (result ≡ Status.OutOfMemory)) }
+    ensures failed { result ≡ Status.WriteFailed → status ≢ Status.WriteFailed
+        → Rose (K.faults out.old) (K.faults out.new) }
+    ensures uncounted { result ≢ Status.WriteFailed → K.faults out.new ≡ K.faults out.old }
+    ensures nothing { result ≡ Status.OutOfMemory → status ≢ Status.OutOfMemory
+        → K.written out.new ≡ K.written out.old }
     ensures later { K.faults out.old ≤ K.faults out.new }
 {
     match out.write(text) {
         Ok(()) => status,
-        Err(WriteError::Failed) => 5,
-        Err(WriteError::Memory(_)) => 6,
+        Err(WriteError::Failed) => Status::WriteFailed,
+        Err(WriteError::Memory(_)) => Status::OutOfMemory,
     }
 }
 
@@ -75,15 +85,27 @@ fn configure<S: Shelf, K: Sink>(
     order: &str,
     shelf: &mut S,
     out: &mut K,
-) -> u8
-    ensures written { ForSome (S.files shelf.old) (λ fs. Writes (IsOfFiles fs model.now order.now) (K.written out.old) (K.written out.new) result) }
-    ensures read { result ≡ 4 → (Rose (S.faults shelf.old model.now) (S.faults shelf.new model.now)) ⊎ (Rose (S.faults shelf.old order.now) (S.faults shelf.new order.now)) }
-    ensures write { result ≡ 5 → Rose (K.faults out.old) (K.faults out.new) }
-    ensures nothing { (result ≡ 4) ⊎ (result ≡ 6) → K.written out.new ≡ K.written out.old }
-    ensures accepted { result ≢ 2 }
-    ensures answers { result ≤ 6 }
+) -> Status
+    // What is written, and the status.
+    ensures written { ForSome (S.files shelf.old) (λ fs.
+        Writes (IsOfFiles fs model.now order.now) (K.written out.old) (K.written out.new) result) }
+    ensures read { result ≡ Status.ReadFailed
+        → (Rose (S.faults shelf.old model.now) (S.faults shelf.new model.now))
+        ⊎ (Rose (S.faults shelf.old order.now) (S.faults shelf.new order.now)) }
+    ensures write { result ≡ Status.WriteFailed → Rose (K.faults out.old) (K.faults out.new) }
+    ensures nothing { (result ≡ Status.ReadFailed) ⊎ (result ≡ Status.OutOfMemory)
+        → K.written out.new ≡ K.written out.old }
+    ensures accepted { result ≢ Status.Usage }
+    ensures answers { result ≢ Status.NoWords }
+
+    // What stays.
     ensures files { S.files shelf.new ≡ S.files shelf.old }
-    ensures others { (n : List ℕ) → n ≢ model.now → n ≢ order.now → S.faults shelf.new n ≡ S.faults shelf.old n }
+    ensures others { (n : List ℕ) → n ≢ model.now → n ≢ order.now
+        → S.faults shelf.new n ≡ S.faults shelf.old n }
+    ensures reads_uncounted { result ≢ Status.ReadFailed
+        → (n : List ℕ) → S.faults shelf.new n ≡ S.faults shelf.old n }
+    ensures writes_uncounted { result ≢ Status.WriteFailed
+        → K.faults out.new ≡ K.faults out.old }
     ensures later { (n : List ℕ) → S.faults shelf.old n ≤ S.faults shelf.new n }
     ensures sink_later { K.faults out.old ≤ K.faults out.new }
 {
@@ -97,47 +119,60 @@ fn configure<S: Shelf, K: Sink>(
     };
     match configured(alloc, model_file, order_file) {
         Ok(outcome) => say(out, outcome.status, &outcome.text),
-        Err(_) => 6,
+        Err(_) => Status::OutOfMemory,
     }
 }
 
 /// Does what the words say, on one worker, and gives the status.
 ///
-/// `configure MODEL ORDER` reads the files MODEL and ORDER of the shelf, in this order, and writes what they result in
-/// with one call of `write`, whole:
+/// `configure MODEL ORDER` reads the files MODEL and ORDER of the shelf, in this order, and writes
+/// what they result in with one call of `write`, whole:
 ///
-/// - status 0 and the text of the preferred configuration, where all requests can be met;
-/// - status 1 and the preferred conflict, where they can't;
-/// - status 3 and `refused FILE CODE PLACE`, where a file has a fault: the model's comes before the order's.
+/// - `Preferred` and the text of the preferred configuration, where all requests can be met;
+/// - `Conflict` and the preferred conflict, where they can't;
+/// - `Refused` and `refused FILE CODE PLACE`, where a file has a fault: the model's comes before
+///   the order's.
 ///
-/// Status 2 and the usage line: the words are none of the accepted forms. Status 4: a read failed, and nothing is written.
-/// Status 5: the write failed, and a part of the text may be written. Status 6: memory ran out, and nothing is written.
+/// `Usage` and the usage line: the words are none of the accepted forms. `ReadFailed`: a read
+/// failed, and nothing is written. `WriteFailed`: the write failed, and a part of the text may be
+/// written. `OutOfMemory`: memory ran out, and nothing is written. A count of faults of the shelf
+/// rises only with `ReadFailed`, and the sink's only with `WriteFailed`.
 pub fn run_alone<S: Shelf, K: Sink>(
     alloc: Global,
     words: &[String],
     shelf: &mut S,
     out: &mut K,
-) -> u8
-    // What is written is the text of what the words and files result in, and the status is its status.
-    ensures result { ForSome (S.files shelf.old) (λ fs. Writes (IsResult (texts words.now) fs) (K.written out.old) (K.written out.new) result) }
-    ensures alone { AsksForNoFile (texts words.now) → Writes (IsResult (texts words.now) []) (K.written out.old) (K.written out.new) result }
+) -> Status
+    // What is written is the text of what the words and files result in, and the status is its
+    // status.
+    ensures result { ForSome (S.files shelf.old) (λ fs.
+        Writes (IsResult (texts words.now) fs) (K.written out.old) (K.written out.new) result) }
+    ensures without_files { AsksForNoFile (texts words.now)
+        → Writes (IsResult (texts words.now) []) (K.written out.old) (K.written out.new) result }
 
     // The statuses, and what causes them.
-    ensures answers { result ≤ 6 }
-    ensures usage { result ≡ 2 → AsksNothing (texts words.now) }
-    ensures read { result ≡ 4 → HasReadFault (texts words.now) (S.faults shelf.old) (S.faults shelf.new) }
-    ensures write { result ≡ 5 → Rose (K.faults out.old) (K.faults out.new) }
-    ensures nothing { (result ≡ 4) ⊎ (result ≡ 6) → K.written out.new ≡ K.written out.old }
+    ensures answers { result ≢ Status.NoWords }
+    ensures usage { result ≡ Status.Usage → AsksNothing (texts words.now) }
+    ensures read { result ≡ Status.ReadFailed
+        → HasReadFault (texts words.now) (S.faults shelf.old) (S.faults shelf.new) }
+    ensures write { result ≡ Status.WriteFailed → Rose (K.faults out.old) (K.faults out.new) }
+    ensures nothing { (result ≡ Status.ReadFailed) ⊎ (result ≡ Status.OutOfMemory)
+        → K.written out.new ≡ K.written out.old }
 
     // What stays.
     ensures files { S.files shelf.new ≡ S.files shelf.old }
-    ensures others { (n : List ℕ) → ¬ IsAskedFile (texts words.now) n → S.faults shelf.new n ≡ S.faults shelf.old n }
+    ensures others { (n : List ℕ) → ¬ IsAskedFile (texts words.now) n
+        → S.faults shelf.new n ≡ S.faults shelf.old n }
+    ensures reads_uncounted { result ≢ Status.ReadFailed
+        → (n : List ℕ) → S.faults shelf.new n ≡ S.faults shelf.old n }
+    ensures writes_uncounted { result ≢ Status.WriteFailed
+        → K.faults out.new ≡ K.faults out.old }
     ensures later { (n : List ℕ) → S.faults shelf.old n ≤ S.faults shelf.new n }
     ensures sink_later { K.faults out.old ≤ K.faults out.new }
 {
     match configure_names(words) {
         Some((model, order)) => configure(alloc, model, order, shelf, out),
-        None => say(out, 2, USAGE.as_bytes()),
+        None => say(out, Status::Usage, USAGE.as_bytes()),
     }
 }
 

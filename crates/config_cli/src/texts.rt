@@ -4,7 +4,8 @@ ghost use Rattle.config_cli.specs.Texts.{refused_text};
 
 use std::alloc::{AllocError, Global};
 
-/// `refused FILE CODE /`, for a fault of the whole document. The code is the fault's number, in two digits after `F`.
+/// `refused FILE CODE /`, for a fault of the whole document. The code is the fault's number, in two
+/// digits after `F`.
 #[tactic(auto, unfolding(crate::specs::Texts::refused_text))]
 pub fn refused_text(alloc: Global, file: &str, code: u32) -> Result<Vec<u8>, AllocError>
     requires { code < 100 }

@@ -31,7 +31,9 @@ fn aim(criterion: &Criterion) -> Result<(bool, i64), &'static str> {
 #[test]
 fn reads_a_plain_order(rt: HostRuntime) -> Result<(), Fail> {
     let text = r#"{"format": "order 1", "criteria": [
-        {"name": "heavy", "maximise": ["attr", "load"]}, {"name": "few", "minimise": ["attr", "seats"]}, {"name": "seven", "minimise": 7}
+        {"name": "heavy", "maximise": ["attr", "load"]},
+        {"name": "few", "minimise": ["attr", "seats"]},
+        {"name": "seven", "minimise": 7}
     ]}"#;
     let problem = read_model(rt.alloc(), VAN.as_bytes())?;
     let order = read_order(rt.alloc(), &problem, text.as_bytes())?;
@@ -75,7 +77,8 @@ fn reads_orders(rt: HostRuntime) -> Result<(), Fail> {
             90,
         ),
         (
-            r#"{"format": "order 1", "criteria": [{"name": "c", "minimise": 1}, {"name": "c", "minimise": 2}]}"#,
+            r#"{"format": "order 1", "criteria": [
+                {"name": "c", "minimise": 1}, {"name": "c", "minimise": 2}]}"#,
             90,
         ),
     ];

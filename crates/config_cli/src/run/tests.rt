@@ -1,18 +1,31 @@
 //! Runs over files and a sink in memory.
+ghost use Rattle.std.specs.Prelude.{None};
+
 use super::run_alone;
-use cfg_io::{MemoryShelf, MemorySink};
+use crate::status::Status;
+use cfg_io::{MemoryShelf, MemorySink, ReadError, Shelf, Sink, WriteError};
 use std::alloc::{AllocError, Global};
 use std::test::Fail;
 
-const BOX: &str =
-    "{\"format\":\"product-model 1\",\"root\":\"Box\",\"instances\":1,\"types\":[{\"name\":\"Box\"}]}";
+const BOX: &str = "{\"format\":\"product-model 1\",\"root\":\"Box\",\"instances\":1,\
+    \"types\":[{\"name\":\"Box\"}]}";
+
+const WIDE_BOX: &str = "{\"format\":\"product-model 1\",\"root\":\"Box\",\"instances\":1,\
+    \"types\":[{\"name\":\"Box\",\"attributes\":[{\"name\":\"width\",\"range\":[1,3]}]}]}";
+
+const TOO_WIDE_BOX: &str = "{\"format\":\"product-model 1\",\"root\":\"Box\",\"instances\":1,\
+    \"types\":[{\"name\":\"Box\",\"attributes\":[{\"name\":\"width\",\"range\":[1,3]}]}],\
+    \"rules\":[{\"name\":\"big\",\"type\":\"Box\",\"holds\":[\">\",[\"attr\",\"width\"],3]}]}";
 
 const CUT_SHORT: &str = "{\"format\":\"product-model 1\",\"root\":";
 
 const NO_CRITERIA: &str = "{\"format\":\"order 1\"}";
 
-const USAGE: &str =
-    "usage: config_cli configure MODEL ORDER [--workers W] | check MODEL ORDER ANSWER | demo N [--workers W]\n";
+const WIDEST: &str = "{\"format\":\"order 1\",\
+    \"criteria\":[{\"name\":\"w\",\"maximise\":[\"attr\",\"width\"]}]}";
+
+const USAGE: &str = "usage: config_cli configure MODEL ORDER [--workers W] \
+    | check MODEL ORDER ANSWER | demo N [--workers W]\n";
 
 /// A run of `configure model order`, and what it leaves.
 #[derive(Clone, Copy)]
@@ -24,14 +37,14 @@ struct Row {
     failing_read: Option<u32>,
     /// The call of the sink that fails, and how many bytes it lets out.
     failing_write: Option<(u32, u32)>,
-    status: u8,
+    status: Status,
     written: &'static str,
 }
 
 /// What a run left.
 #[derive(Drop)]
 struct Left {
-    status: u8,
+    status: Status,
     written: Vec<u8>,
 }
 
@@ -79,7 +92,7 @@ fn leaves_what_the_files_result_in(rt: HostRuntime) -> Result<(), Fail> {
             order: NO_CRITERIA,
             failing_read: None,
             failing_write: None,
-            status: 0,
+            status: Status::Preferred,
             written: "preferred\n0 Box\n",
         },
         Row {
@@ -88,7 +101,7 @@ fn leaves_what_the_files_result_in(rt: HostRuntime) -> Result<(), Fail> {
             order: NO_CRITERIA,
             failing_read: None,
             failing_write: None,
-            status: 3,
+            status: Status::Refused,
             written: "refused model F02 /\n",
         },
         Row {
@@ -97,25 +110,25 @@ fn leaves_what_the_files_result_in(rt: HostRuntime) -> Result<(), Fail> {
             order: "{\"format\":\"order 2\"}",
             failing_read: None,
             failing_write: None,
-            status: 3,
+            status: Status::Refused,
             written: "refused order F90 /\n",
         },
         Row {
             shows: "a rule that never holds leaves the empty conflict",
-            model: "{\"format\":\"product-model 1\",\"root\":\"Box\",\"instances\":1,\"types\":[{\"name\":\"Box\",\"attributes\":[{\"name\":\"width\",\"range\":[1,3]}]}],\"rules\":[{\"name\":\"big\",\"type\":\"Box\",\"holds\":[\">\",[\"attr\",\"width\"],3]}]}",
+            model: TOO_WIDE_BOX,
             order: NO_CRITERIA,
             failing_read: None,
             failing_write: None,
-            status: 1,
+            status: Status::Conflict,
             written: "conflict 0\n",
         },
         Row {
             shows: "a maximised criterion takes the greatest value",
-            model: "{\"format\":\"product-model 1\",\"root\":\"Box\",\"instances\":1,\"types\":[{\"name\":\"Box\",\"attributes\":[{\"name\":\"width\",\"range\":[1,3]}]}]}",
-            order: "{\"format\":\"order 1\",\"criteria\":[{\"name\":\"w\",\"maximise\":[\"attr\",\"width\"]}]}",
+            model: WIDE_BOX,
+            order: WIDEST,
             failing_read: None,
             failing_write: None,
-            status: 0,
+            status: Status::Preferred,
             written: "preferred\n0 Box width=3\n",
         },
         Row {
@@ -124,7 +137,7 @@ fn leaves_what_the_files_result_in(rt: HostRuntime) -> Result<(), Fail> {
             order: NO_CRITERIA,
             failing_read: Some(0),
             failing_write: None,
-            status: 4,
+            status: Status::ReadFailed,
             written: "",
         },
         Row {
@@ -133,7 +146,7 @@ fn leaves_what_the_files_result_in(rt: HostRuntime) -> Result<(), Fail> {
             order: NO_CRITERIA,
             failing_read: Some(1),
             failing_write: None,
-            status: 4,
+            status: Status::ReadFailed,
             written: "",
         },
         Row {
@@ -142,7 +155,7 @@ fn leaves_what_the_files_result_in(rt: HostRuntime) -> Result<(), Fail> {
             order: NO_CRITERIA,
             failing_read: Some(1),
             failing_write: None,
-            status: 4,
+            status: Status::ReadFailed,
             written: "",
         },
         Row {
@@ -151,7 +164,7 @@ fn leaves_what_the_files_result_in(rt: HostRuntime) -> Result<(), Fail> {
             order: NO_CRITERIA,
             failing_read: None,
             failing_write: Some((0, 10)),
-            status: 5,
+            status: Status::WriteFailed,
             written: "preferred\n",
         },
         Row {
@@ -160,7 +173,7 @@ fn leaves_what_the_files_result_in(rt: HostRuntime) -> Result<(), Fail> {
             order: NO_CRITERIA,
             failing_read: None,
             failing_write: Some((0, 0)),
-            status: 5,
+            status: Status::WriteFailed,
             written: "",
         },
         Row {
@@ -169,7 +182,7 @@ fn leaves_what_the_files_result_in(rt: HostRuntime) -> Result<(), Fail> {
             order: NO_CRITERIA,
             failing_read: None,
             failing_write: Some((0, 1)),
-            status: 5,
+            status: Status::WriteFailed,
             written: "p",
         },
         Row {
@@ -178,7 +191,7 @@ fn leaves_what_the_files_result_in(rt: HostRuntime) -> Result<(), Fail> {
             order: NO_CRITERIA,
             failing_read: None,
             failing_write: Some((0, 16)),
-            status: 5,
+            status: Status::WriteFailed,
             written: "preferred\n0 Box\n",
         },
     ];
@@ -203,7 +216,7 @@ fn takes_no_other_words(rt: HostRuntime) -> Result<(), Fail> {
         order: NO_CRITERIA,
         failing_read: None,
         failing_write: None,
-        status: 2,
+        status: Status::Usage,
         written: USAGE,
     };
     let others = [
@@ -224,5 +237,42 @@ fn takes_no_other_words(rt: HostRuntime) -> Result<(), Fail> {
             row.shows
         );
     }
+    Ok(())
+}
+
+/// A shelf and a sink that lack memory.
+#[derive(Drop)]
+struct NoMemory;
+
+impl Shelf for NoMemory {
+    ghost files = { λ _. None };
+
+    ghost faults = { λ _ _. 0 };
+
+    fn read(&mut self, _name: &str, _limit: usize) -> Result<Vec<u8>, ReadError> {
+        Err(ReadError::Memory(AllocError))
+    }
+}
+
+impl Sink for NoMemory {
+    ghost written = { λ _. None };
+
+    ghost faults = { λ _. 0 };
+
+    fn write(&mut self, _piece: &[u8]) -> Result<(), WriteError> {
+        Err(WriteError::Memory(AllocError))
+    }
+}
+
+#[test]
+fn ends_where_memory_runs_out(rt: HostRuntime) -> Result<(), Fail> {
+    let alloc = rt.alloc();
+    let mut out = MemorySink::new(alloc, Vec::new(alloc));
+    let words = words_of(alloc, "configure model order")?;
+    let status = run_alone(alloc, &words, &mut NoMemory, &mut out);
+    assert_eq!(rt; status, Status::OutOfMemory, "where a file finds no room");
+    assert!(rt; out.written().is_empty());
+    let status = run_alone(alloc, &[], &mut NoMemory, &mut NoMemory);
+    assert_eq!(rt; status, Status::OutOfMemory, "where the text finds no room");
     Ok(())
 }

@@ -2,7 +2,7 @@
 ghost use Rattle.std.specs.Prelude.{◌≡◌};
 ghost use Rattle.std.specs.Ordering.{is_lt};
 ghost use Rattle.prod_model.specs.declared.expr.Expr.TheViews.{out-Expr};
-ghost use Rattle.config_cli.specs.Sides.{side_value, is_met, meets_rules, criterion_order, criteria_order, values_order};
+ghost use Rattle.config_cli.specs.steps.Sides.{side_value, is_met, meets_rules, criterion_order, criteria_order, values_order};
 
 use config_value::holds;
 use prod_model::{Criterion, Expr, Rule};
@@ -38,8 +38,8 @@ pub(super) fn meets_rules(values: &[i64], rules: &[Rule]) -> bool
     rules.iter().all(|rule| is_met(values, &rule.holds))
 }
 
-/// Which of two lists of values comes first by a criterion. A maximised one is compared the other way round, since a negated
-/// number need not fit.
+/// Which of two lists of values comes first by a criterion. A maximised one is compared the other
+/// way round, since a negated number need not fit.
 fn criterion_order(criterion: &Criterion, values: &[i64], others: &[i64]) -> Ordering
     ensures { result ≡ criterion_order criterion.now values.now others.now }
 {

@@ -72,7 +72,8 @@ fn declares_few_words(kind: &TypeDecl) -> bool
 }
 
 fn have_few_words(types: &[TypeDecl]) -> bool
-    ensures { result ≡ list_all (λ d. list_all (λ a. words_are_few a.domain) d.attributes) types.now }
+    ensures { result
+        ≡ list_all (λ d. list_all (λ a. words_are_few a.domain) d.attributes) types.now }
 {
     types.iter().all(|d| declares_few_words(d))
 }
@@ -126,13 +127,16 @@ pub(super) fn words_of(domain: &Domain) -> &[Name]
 }
 
 fn is_formed_attribute(attribute: &AttrDecl) -> bool
-    ensures { result ≡ (is_name_of attribute.now.name && list_all is_word_of (words_in attribute.now.domain)) }
+    ensures { result
+        ≡ (is_name_of attribute.now.name && list_all is_word_of (words_in attribute.now.domain)) }
 {
     is_name(attribute.name.bytes()) && are_words(words_of(&attribute.domain))
 }
 
 fn are_formed_attributes(attributes: &[AttrDecl]) -> bool
-    ensures { result ≡ list_all (λ a. is_name_of a.name && list_all is_word_of (words_in a.domain)) attributes.now }
+    ensures { result
+        ≡ list_all (λ a. is_name_of a.name && list_all is_word_of (words_in a.domain))
+        attributes.now }
 {
     attributes.iter().all(|a| is_formed_attribute(a))
 }
@@ -144,7 +148,9 @@ fn have_port_names(ports: &[PortDecl]) -> bool
 }
 
 fn has_formed_names_of(kind: &TypeDecl) -> bool
-    ensures { result ≡ (is_name_of kind.now.name && list_all (λ a. is_name_of a.name && list_all is_word_of (words_in a.domain)) kind.now.attributes
+    ensures { result ≡ (is_name_of kind.now.name
+        && list_all (λ a. is_name_of a.name && list_all is_word_of (words_in a.domain))
+        kind.now.attributes
         && list_all (λ p. is_name_of p.name) kind.now.ports) }
 {
     is_name(kind.name.bytes())
@@ -153,7 +159,8 @@ fn has_formed_names_of(kind: &TypeDecl) -> bool
 }
 
 fn have_formed_names(types: &[TypeDecl]) -> bool
-    ensures { result ≡ list_all (λ d. is_name_of d.name && list_all (λ a. is_name_of a.name && list_all is_word_of (words_in a.domain)) d.attributes
+    ensures { result ≡ list_all (λ d. is_name_of d.name
+        && list_all (λ a. is_name_of a.name && list_all is_word_of (words_in a.domain)) d.attributes
         && list_all (λ p. is_name_of p.name) d.ports) types.now }
 {
     types.iter().all(|d| has_formed_names_of(d))
@@ -206,13 +213,15 @@ fn are_pairs(ports: &[PortDecl]) -> bool
 }
 
 fn has_numbers_in_limits_of(kind: &TypeDecl) -> bool
-    ensures { result ≡ (list_all (λ a. ends_are_in_order a.domain) kind.now.attributes && list_all (λ p. pair_is_in_order p.low p.high) kind.now.ports) }
+    ensures { result ≡ (list_all (λ a. ends_are_in_order a.domain) kind.now.attributes
+        && list_all (λ p. pair_is_in_order p.low p.high) kind.now.ports) }
 {
     have_ends(kind.attributes.as_slice()) && are_pairs(kind.ports.as_slice())
 }
 
 fn have_numbers_in_limits(types: &[TypeDecl]) -> bool
-    ensures { result ≡ list_all (λ d. list_all (λ a. ends_are_in_order a.domain) d.attributes && list_all (λ p. pair_is_in_order p.low p.high) d.ports) types.now }
+    ensures { result ≡ list_all (λ d. list_all (λ a. ends_are_in_order a.domain) d.attributes
+        && list_all (λ p. pair_is_in_order p.low p.high) d.ports) types.now }
 {
     types.iter().all(|d| has_numbers_in_limits_of(d))
 }

@@ -27,8 +27,8 @@ fn mesh(alloc: Global) -> Result<String, AllocError> {
     Ok(text)
 }
 
-/// A truth about all or some linked nodes of all or some linked nodes, so many levels deep. It holds, since each node links
-/// all of them.
+/// A truth about all or some linked nodes of all or some linked nodes, so many levels deep. It
+/// holds, since each node links all of them.
 fn nested(alloc: Global, depth: u32) -> Made {
     let mut e = Expr::Kind(0);
     for level in 0..depth {
@@ -53,7 +53,8 @@ fn push_rules(alloc: Global, model: &mut Model) -> Result<(), AllocError> {
     model.rules.push(rule(alloc, b"fails", 0, fails)?)
 }
 
-/// Each level of a nested rule has 64 times as many links to follow, if they are followed one by one.
+/// Each level of a nested rule has 64 times as many links to follow, if they are followed one by
+/// one.
 #[test]
 fn checks_a_mesh(rt: HostRuntime) -> Result<(), Fail> {
     let alloc = rt.alloc();

@@ -63,7 +63,8 @@ pub(super) fn nodes(alloc: Global, link: PortKind) -> Result<Model, AllocError> 
     model(alloc, 0, 3, &[kind_of(b"Node", None, &[], &next)])
 }
 
-/// A rack of up to two cards, with two rules for cards: a power of at least 5, and then one of at most 7.
+/// A rack of up to two cards, with two rules for cards: a power of at least 5, and then one of at
+/// most 7.
 pub(super) fn ruled_cards(alloc: Global) -> Result<Model, AllocError> {
     let cards = [(b"cards".as_slice(), PortKind::Part, 1, 0, 2)];
     let power = [(b"power".as_slice(), Values::Range(1, 9))];

@@ -56,7 +56,8 @@ fn names_of_attributes(alloc: Global, attributes: &[AttrDecl]) -> Result<Items<N
 
 /// The names of the attributes of a type, and then those of its ports.
 fn declared_names(alloc: Global, kind: &TypeDecl) -> Result<Items<Name>, AllocError>
-    ensures { IfOk result (λ names. names ≡ map (λ a. a.name) kind.now.attributes ++ map (λ p. p.name) kind.now.ports) }
+    ensures { IfOk result (λ names. names
+        ≡ map (λ a. a.name) kind.now.attributes ++ map (λ p. p.name) kind.now.ports) }
 {
     let mut names = names_of_attributes(alloc, kind.attributes.as_slice())?;
     for p in kind.ports.as_slice() {
@@ -72,7 +73,8 @@ fn have_distinct_words(attributes: &[AttrDecl]) -> bool
 }
 
 fn has_distinct_names_of(alloc: Global, kind: &TypeDecl) -> Result<bool, AllocError>
-    ensures { IfOk result (λ distinct. distinct ≡ (is_distinct (map (λ a. a.name) kind.now.attributes ++ map (λ p. p.name) kind.now.ports)
+    ensures { IfOk result (λ distinct. distinct
+        ≡ (is_distinct (map (λ a. a.name) kind.now.attributes ++ map (λ p. p.name) kind.now.ports)
         && list_all (λ a. is_distinct (words_in a.domain)) kind.now.attributes)) }
 {
     let names = declared_names(alloc, kind)?;
@@ -80,7 +82,8 @@ fn has_distinct_names_of(alloc: Global, kind: &TypeDecl) -> Result<bool, AllocEr
 }
 
 fn have_distinct_names(alloc: Global, types: &[TypeDecl]) -> Result<bool, AllocError>
-    ensures { IfOk result (λ distinct. distinct ≡ list_all (λ d. is_distinct (map (λ a. a.name) d.attributes ++ map (λ p. p.name) d.ports)
+    ensures { IfOk result (λ distinct. distinct ≡ list_all (λ d.
+        is_distinct (map (λ a. a.name) d.attributes ++ map (λ p. p.name) d.ports)
         && list_all (λ a. is_distinct (words_in a.domain)) d.attributes) types.now) }
 {
     for d in types {
@@ -91,8 +94,8 @@ fn have_distinct_names(alloc: Global, types: &[TypeDecl]) -> Result<bool, AllocE
     Ok(true)
 }
 
-/// Whether no name stands twice among the types, among the attributes and ports of a type, among the rules or among the
-/// words of an attribute.
+/// Whether no name stands twice among the types, among the attributes and ports of a type, among
+/// the rules or among the words of an attribute.
 #[tactic(auto, unfolding(prod_model::specs::Valid::has_distinct_names))]
 pub(super) fn has_distinct_names(alloc: Global, model: &Model) -> Result<bool, AllocError>
     ensures { IfOk result (λ distinct. distinct ≡ names_are_distinct model.now) }

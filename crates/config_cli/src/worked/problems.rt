@@ -72,7 +72,8 @@ pub(super) fn is_truth(alloc: Global, model: &Model, tables: &Tables, at: u32, e
 fn are_truths(alloc: Global, model: &Model, tables: &Tables, rules: &[Rule]) -> bool
     requires declared { IsDeclared model.now }
     requires tables { tables.now ≡ tables_of model.now }
-    ensures { IsTrue result → IsTrue (list_all (λ r. is_truth_at model.now r.kind r.holds) rules.now) }
+    ensures { IsTrue result
+        → IsTrue (list_all (λ r. is_truth_at model.now r.kind r.holds) rules.now) }
 {
     match rules.split_first() {
         None => true,

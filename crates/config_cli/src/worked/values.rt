@@ -1,5 +1,5 @@
-//! What expressions are at instances of answers that satisfy their models, worked out by hand: each form of a number, and
-//! each form of a truth both ways.
+//! What expressions are at instances of answers that satisfy their models, worked out by hand: each
+//! form of a number, and each form of a truth both ways.
 ghost use Rattle.std.specs.Prelude.{◌≡◌, [], ◌∷◌, codes, IfOk, IsTrue};
 ghost use Rattle.config_value.specs.Shaped.{is_shaped};
 
@@ -75,7 +75,10 @@ fn request_met(alloc: Global, problem: &Problem, c: &Configuration, e: Expr) -> 
 
 /// An order of one request.
 fn order_of(alloc: Global, holds: Expr) -> Result<Order, AllocError>
-    ensures { IfOk result (λ o. o ≡ record { requests = record { name = codes "wish"; holds = holds } ∷ []; criteria = [] }) }
+    ensures { IfOk result (λ o. o ≡ record {
+      requests = record { name = codes "wish"; holds = holds } ∷ [];
+      criteria = [];
+    }) }
 {
     let mut requests = Items::new(alloc);
     requests.push(Request {
@@ -88,7 +91,8 @@ fn order_of(alloc: Global, holds: Expr) -> Result<Order, AllocError>
     })
 }
 
-/// Whether an expression at a type is true at an instance. Where that is the root product, a request of it is met alike.
+/// Whether an expression at a type is true at an instance. Where that is the root product, a
+/// request of it is met alike.
 fn is_true(
     alloc: Global,
     problem: &Problem,

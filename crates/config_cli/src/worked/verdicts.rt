@@ -1,4 +1,5 @@
-//! Verdicts on answers, worked out by hand: each test broken alone, and pairs that show the order of the tests.
+//! Verdicts on answers, worked out by hand: each test broken alone, and pairs that show the order
+//! of the tests.
 use super::models::{
     boxes, colours, few_cards, nodes, one_card, racks, ruled_cards, shared_drivers, two_ports,
 };
@@ -162,7 +163,8 @@ const BROKEN: [(Of, &str, u32, u32, u32); 19] = [
     ),
     (
         Of::Racks,
-        "preferred\n0 Rack price=50 cards:1,2,3\n1 Big price=18 power=12\n2 Big price=18 power=12\n3 Big price=18 power=12\n",
+        "preferred\n0 Rack price=50 cards:1,2,3\n1 Big price=18 power=12\n\
+        2 Big price=18 power=12\n3 Big price=18 power=12\n",
         10,
         0,
         0,
@@ -183,8 +185,8 @@ fn breaks_one_test(rt: HostRuntime) -> Result<(), Fail> {
     Ok(())
 }
 
-/// Of two tests that an answer breaks the one of the lesser code is told, wherever it is broken; then the one of the lower
-/// instance, and then of the lesser item.
+/// Of two tests that an answer breaks the one of the lesser code is told, wherever it is broken;
+/// then the one of the lower instance, and then of the lesser item.
 const FIRST_BROKEN: [(Of, &str, u32, u32, u32); 13] = [
     (
         Of::TwoPorts,
@@ -245,7 +247,8 @@ const FIRST_BROKEN: [(Of, &str, u32, u32, u32); 13] = [
     ),
     (
         Of::FewCards,
-        "preferred\n0 Rack price=50 cards:1,2,3\n1 Big price=18 power=12\n2 Big price=18 power=12\n3 Big price=18 power=12\n",
+        "preferred\n0 Rack price=50 cards:1,2,3\n1 Big price=18 power=12\n\
+        2 Big price=18 power=12\n3 Big price=18 power=12\n",
         9,
         0,
         0,

@@ -1,7 +1,7 @@
 use Rattle.std.proofs.Common.{rules, ◌≡◌, ◌+ℤ◌, ◌≤ℤ◌, ◌<ℤ◌, pos, w64, to_z, of_z, FitsSigned, arith}
 use Rattle.std.proofs.lemmas.Int.{ints, to_z-of_z}
 use Rattle.std.proofs.lemmas.Grind.{common_steps}
-use Rattle.config_cli.specs.Best.{best_of}
+use Rattle.config_cli.specs.steps.BestFound.{best_of}
 use Rattle.config_cli.proofs.KeepsFirstLaws.{keeps_over_none, keeps_over_same}
 use Rattle.config_cli.proofs.ValuesOrderLaws.{values_order_total}
 use Rattle.config_cli.proofs.WalkLaws.{choice_of_none, choice_of_words, choice_of_range, went_over_none, went_over_one, went_over_all}

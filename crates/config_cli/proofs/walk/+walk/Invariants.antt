@@ -1,7 +1,7 @@
 use Rattle.std.proofs.Common.{◌≡◌, ◌+◌, ◌*◌, ◌≤ℤ◌, ◌<ℤ◌, length, vec_len, vec_capacity}
-use Rattle.config_cli.specs.Sides.{values_order}
-use Rattle.config_cli.specs.Best.{best_of, KeepsFirst}
-use Rattle.config_cli.specs.Walk.{IsChoiceNext}
+use Rattle.config_cli.specs.steps.Sides.{values_order}
+use Rattle.config_cli.specs.steps.BestFound.{best_of, KeepsFirst}
+use Rattle.config_cli.specs.steps.Walk.{IsChoiceNext}
 use Rattle.config_cli.proofs.walk.+walk.Given as goal
 
 abbrev pub decreases-walk : goal.decreases-walk

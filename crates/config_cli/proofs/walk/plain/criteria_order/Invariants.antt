@@ -1,5 +1,5 @@
 use Rattle.std.proofs.Common.{◌≡◌, drop}
-use Rattle.config_cli.specs.Sides.{criteria_order}
+use Rattle.config_cli.specs.steps.Sides.{criteria_order}
 use Rattle.config_cli.proofs.walk.plain.criteria_order.Given as goal
 
 -- those before tie, so that the rest decide

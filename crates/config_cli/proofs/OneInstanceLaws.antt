@@ -2,6 +2,7 @@
 -- way round.
 use Rattle.std.proofs.Common.{◌≡◌, ℕ, suc, ◌+◌, ◌-◌, ◌≤◌, ℤ, List, [], ◌∷◌, length, map, refl, ap, ap₂, ◌∙◌, sym, subst, le-leb, ltb-true, eqb-true, eq-eqb, arith}
 use Rattle.std.proofs.lemmas.Bool.{and_parts, and_from, true≢false}
+use Rattle.std.proofs.lemmas.List.{nil_from_length}
 use Rattle.std.specs.Prelude.{IsTrue, ◌&&◌, ◌||◌, ◌==◌, not, true, false, Bool, nat_lt}
 use Rattle.std.specs.List.{list_all, flat_map, enumerate_from, range_with_len, find}
 use Rattle.std.specs.Option.{option_map, option_map_or}
@@ -21,11 +22,11 @@ use Rattle.config_value.specs.Shaped.{is_shaped, has_leaf_types, has_root, has_s
 use Rattle.config_value.specs.Numbered.{Link, is_numbered, is_mentioned_lower, is_mentioned_before}
 use Rattle.config_value.specs.Satisfies.{follows_rules, satisfies}
 use Rattle.model_reader.specs.Plain.{is_range, is_plain_comparison}
-use Rattle.config_cli.specs.Sides.{is_met, meets_rules}
-use Rattle.config_cli.specs.Walk.{is_in_ranges, alone, IsChoice}
+use Rattle.config_cli.specs.steps.Sides.{is_met, meets_rules}
+use Rattle.config_cli.specs.steps.Walk.{is_in_ranges, one_instance, IsChoice}
 use Rattle.config_cli.proofs.OneType.{one_type, IsPlainParts}
 use Rattle.config_cli.proofs.OneTypeAttributes.{made, length_made, attributes_at_one_type, ports_at_one_type, value_of_one_type}
-use Rattle.config_cli.proofs.SideLaws.{is_true_at_alone}
+use Rattle.config_cli.proofs.SideLaws.{is_true_at_one_instance}
 
 -- lists that are compared pair by pair are as long
 pub long : {A B : Type 0} (test : A → B → Bool) (xs : List A) (ys : List B) → IsTrue (pointwise test xs ys) → length ys ≡ length xs
@@ -52,27 +53,27 @@ module _ (instances : ℕ) (name : List ℕ) (attributes : List AttrDecl) (rules
 
   -- ---- one instance with values of the attributes is a candidate
 
-  pub leaf_type : (values : List ℤ) → length values ≡ length (attributes_at m 0) → IsTrue (has_leaf_types m (alone values))
+  pub leaf_type : (values : List ℤ) → length values ≡ length (attributes_at m 0) → IsTrue (has_leaf_types m (one_instance values))
   unfolding has_leaf_types is_leaf ports_of
   leaf_type values e = and_from _ _ (and_from _ _ (and_from _ _ refl (eq-eqb _ _ e)) refl) refl
 
-  shaped_alone : (values : List ℤ) → 1 ≤ instances → IsTrue (pointwise (has_value m) (attributes_at m 0) values)
-      → IsTrue (is_shaped m (alone values))
+  shaped_one_instance : (values : List ℤ) → 1 ≤ instances → IsTrue (pointwise (has_value m) (attributes_at m 0) values)
+      → IsTrue (is_shaped m (one_instance values))
   unfolding is_shaped has_root has_size has_values has_links has_single_parts has_counts is_a ports_of
-  shaped_alone values some h =
+  shaped_one_instance values some h =
       and_from _ _ (and_from _ _ (and_from _ _ (and_from _ _ (and_from _ _ (and_from _ _
       (leaf_type values (long _ _ _ h)) refl) (le-leb 1 instances some)) (and_from _ _ h refl)) refl) refl) refl
 
-  numbered_alone : (values : List ℤ) → IsTrue (is_numbered (alone values))
+  numbered_one_instance : (values : List ℤ) → IsTrue (is_numbered (one_instance values))
   unfolding is_numbered
-  numbered_alone values = refl
+  numbered_one_instance values = refl
 
   -- ---- rules at one instance
 
   -- the rule is true at each instance under its type
   abbrev is_true_of : List ℤ → Rule → Bool
   is_true_of values r =
-      list_all (λ e. not (under m r.kind e.1) || is_true_at m (alone values) e.0 r.holds) (enumerate_from 0 (alone values))
+      list_all (λ e. not (under m r.kind e.1) || is_true_at m (one_instance values) e.0 r.holds) (enumerate_from 0 (one_instance values))
 
   -- so it is where it is met
   rule_at : (values : List ℤ) → length values ≡ length attributes
@@ -80,9 +81,9 @@ module _ (instances : ℕ) (name : List ℕ) (attributes : List AttrDecl) (rules
   unfolding is_a
   rule_at values e r kind plain =
       let zero_is : r.kind ≡ 0 = let below = ltb-true r.kind 1 kind in omega arith in
-      ap (λ k. (not ((0 == k) || false) || is_true_at m (alone values) 0 r.holds) && true) zero_is
-      ∙ last (is_true_at m (alone values) 0 r.holds)
-      ∙ is_true_at_alone m values (value_of_one_type instances name attributes rules values e) r.holds plain
+      ap (λ k. (not ((0 == k) || false) || is_true_at m (one_instance values) 0 r.holds) && true) zero_is
+      ∙ last (is_true_at m (one_instance values) 0 r.holds)
+      ∙ is_true_at_one_instance m values (value_of_one_type instances name attributes rules values e) r.holds plain
     where
       last : (b : Bool) → b && true ≡ b
       last true = refl
@@ -98,11 +99,11 @@ module _ (instances : ℕ) (name : List ℕ) (attributes : List AttrDecl) (rules
       let p = and_parts _ _ plain in
       ap₂ ◌&&◌ (rule_at values e r k.0 p.0) (rules_at values e rs k.1 p.1)
 
-  follows_rules_alone : (values : List ℤ) → length values ≡ length attributes
+  follows_rules_one_instance : (values : List ℤ) → length values ≡ length attributes
       → IsTrue (list_all (λ r. nat_lt r.kind 1) rules) → IsTrue (list_all (λ r. is_plain_comparison (out-Expr r.holds)) rules)
-      → follows_rules m (alone values) ≡ meets_rules values rules
+      → follows_rules m (one_instance values) ≡ meets_rules values rules
   unfolding follows_rules
-  follows_rules_alone values e kinds plain = rules_at values e rules kinds plain
+  follows_rules_one_instance values e kinds plain = rules_at values e rules kinds plain
 
   -- ---- a candidate is one instance
 
@@ -119,11 +120,7 @@ module _ (instances : ℕ) (name : List ℕ) (attributes : List AttrDecl) (rules
       let inner = and_parts _ _ outer.0 in
       let kind : x.kind ≡ 0 = let below = ltb-true x.kind 1 (and_parts _ _ inner.0).0 in omega arith in
       let no_ports = ap (λ k. length (ports_at m k)) kind ∙ ap length (ports_at_one_type instances name attributes rules) in
-      record { kind = kind; links = nothing x.links (eqb-true _ _ outer.1 ∙ no_ports) }
-    where
-      nothing : {A : Type 0} (xs : List A) → length xs ≡ 0 → xs ≡ []
-      nothing [] e = refl
-      nothing (y ∷ ys) e = absurd cc
+      record { kind = kind; links = nil_from_length x.links (eqb-true _ _ outer.1 ∙ no_ports) }
 
   -- without links, no instance is mentioned
   no_links : (c : List Instance) (k : ℕ) → IsTrue (has_leaf_types m c)
@@ -148,18 +145,18 @@ module _ (instances : ℕ) (name : List ℕ) (attributes : List AttrDecl) (rules
       true≢false (sym mentioned ∙ none)
 
   -- A configuration that satisfies the model is one instance whose values are in the ranges.
-  pub record IsAlone (c : List Instance) : Type 0 where
+  pub record IsOneInstance (c : List Instance) : Type 0 where
     pub values : List ℤ
-    pub is : c ≡ alone values
+    pub is : c ≡ one_instance values
     pub in_ranges : IsTrue (pointwise (has_value m) (attributes_at m 0) values)
 
   -- so says each number of instances
-  one_instance : (c : List Instance) → IsTrue (has_leaf_types m c) → IsTrue (has_size m c) → IsTrue (has_values m c) → IsTrue (is_numbered c)
-      → IsAlone c
+  is_one_instance : (c : List Instance) → IsTrue (has_leaf_types m c) → IsTrue (has_size m c) → IsTrue (has_values m c) → IsTrue (is_numbered c)
+      → IsOneInstance c
   unfolding has_size has_values has_leaf_types
-  one_instance [] leaf size values numbered = absurd (true≢false (sym size))
-  one_instance (x ∷ y ∷ c) leaf size values numbered = absurd (no_second x y c leaf numbered)
-  one_instance (x ∷ []) leaf size values numbered =
+  is_one_instance [] leaf size values numbered = absurd (true≢false (sym size))
+  is_one_instance (x ∷ y ∷ c) leaf size values numbered = absurd (no_second x y c leaf numbered)
+  is_one_instance (x ∷ []) leaf size values numbered =
       let b = bare x (and_parts _ _ leaf).0 in
       record {
         values = x.values;
@@ -167,9 +164,9 @@ module _ (instances : ℕ) (name : List ℕ) (attributes : List AttrDecl) (rules
         in_ranges = subst (λ k. IsTrue (pointwise (has_value m) (attributes_at m k) x.values)) b.kind (and_parts _ _ values).0;
       }
 
-  pub satisfied_alone : (c : List Instance) → IsTrue (satisfies m c) → IsAlone c
+  pub satisfied_one_instance : (c : List Instance) → IsTrue (satisfies m c) → IsOneInstance c
   unfolding satisfies is_shaped
-  satisfied_alone c h =
+  satisfied_one_instance c h =
       let parts = and_parts _ _ (and_parts _ _ h).0 in
       let six = and_parts _ _ parts.0 in
       let five = and_parts _ _ six.0 in
@@ -177,7 +174,7 @@ module _ (instances : ℕ) (name : List ℕ) (attributes : List AttrDecl) (rules
       let three = and_parts _ _ four.0 in
       let two = and_parts _ _ three.0 in
       let one = and_parts _ _ two.0 in
-      one_instance c one.0 two.1 three.1 parts.1
+      is_one_instance c one.0 two.1 three.1 parts.1
 
   -- ---- both ways
 
@@ -195,19 +192,19 @@ module _ (instances : ℕ) (name : List ℕ) (attributes : List AttrDecl) (rules
         ∙ ap length (attributes_at_one_type instances name attributes rules) ∙ length_made 0 attributes
 
     -- what the walk may choose satisfies the model
-    pub choice_satisfies : (values : List ℤ) → IsChoice rules (attributes_at m 0) [] values → IsTrue (satisfies m (alone values))
+    pub choice_satisfies : (values : List ℤ) → IsChoice rules (attributes_at m 0) [] values → IsTrue (satisfies m (one_instance values))
     unfolding satisfies
     choice_satisfies values c =
         let in_ranges = ap (λ vs. is_in_ranges (attributes_at m 0) vs) c.joined ∙ c.in_ranges in
-        and_from _ _ (and_from _ _ (shaped_alone values parts.some (in_ranges_is values ∙ in_ranges)) (numbered_alone values))
-        (follows_rules_alone values (values_long values in_ranges) parts.kinds parts.comparisons ∙ c.met)
+        and_from _ _ (and_from _ _ (shaped_one_instance values parts.some (in_ranges_is values ∙ in_ranges)) (numbered_one_instance values))
+        (follows_rules_one_instance values (values_long values in_ranges) parts.kinds parts.comparisons ∙ c.met)
 
     -- what satisfies the model is one that the walk may choose
     pub satisfied_choice : (c : List Instance) → IsTrue (satisfies m c)
-        → (values : List ℤ) × (c ≡ alone values) × IsChoice rules (attributes_at m 0) [] values
+        → (values : List ℤ) × (c ≡ one_instance values) × IsChoice rules (attributes_at m 0) [] values
     unfolding satisfies
     satisfied_choice c h =
-        let a = satisfied_alone c h in
+        let a = satisfied_one_instance c h in
         let in_ranges = sym (in_ranges_is a.values) ∙ a.in_ranges in
         let follows = ap (follows_rules m) (sym a.is) ∙ (and_parts _ _ h).1 in (
           a.values,
@@ -216,6 +213,6 @@ module _ (instances : ℕ) (name : List ℕ) (attributes : List AttrDecl) (rules
             rest = a.values;
             joined = refl;
             in_ranges = in_ranges;
-            met = sym (follows_rules_alone a.values (values_long a.values in_ranges) parts.kinds parts.comparisons) ∙ follows;
+            met = sym (follows_rules_one_instance a.values (values_long a.values in_ranges) parts.kinds parts.comparisons) ∙ follows;
           },
         )

@@ -1,8 +1,8 @@
 //! The best values that the walk has found so far.
 ghost use Rattle.std.specs.Prelude.{◌≡◌, IfOk, length, vec_len};
 ghost use Rattle.std.specs.Option.{option_map};
-ghost use Rattle.config_cli.specs.Best.{best_of, gives_way};
-ghost use Rattle.config_cli.specs.Walk.{Considers};
+ghost use Rattle.config_cli.specs.steps.BestFound.{best_of, gives_way};
+ghost use Rattle.config_cli.specs.steps.Walk.{Considers};
 
 use super::plain::{come_before, meets_rules};
 use prod_model::{Criterion, Rule};
@@ -10,18 +10,18 @@ use std::alloc::{AllocError, Global};
 
 /// The best values found, if any were. The room for them stays the same.
 #[derive(Drop)]
-pub(super) struct Best {
+pub(super) struct BestFound {
     found: bool,
     values: Vec<i64>,
 }
 
-impl Best {
+impl BestFound {
     /// Nothing found, with room for so many values.
-    pub(super) fn with_room(alloc: Global, values: usize) -> Result<Best, AllocError>
+    pub(super) fn with_room(alloc: Global, values: usize) -> Result<BestFound, AllocError>
         ensures none { IfOk result (λ b. best_of b ≡ None) }
         ensures room { IfOk result (λ b. vec_len b.values ≡ values) }
     {
-        Ok(Best {
+        Ok(BestFound {
             found: false,
             values: vec![in alloc; 0; values]?,
         })

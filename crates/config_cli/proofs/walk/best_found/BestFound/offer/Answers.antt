@@ -1,7 +1,7 @@
 use Rattle.std.proofs.Common.{sym, ◌∙◌}
 use Rattle.config_cli.proofs.OfferLaws.{taken, beaten, unmet}
-use Rattle.config_cli.proofs.walk.best.Best.offer.Goals as goal
-use Rattle.config_cli.proofs.walk.best.Best.offer.Goals.{else-meets_rules-via-then-meets_rules+else-gives_way, else-meets_rules-via-else-meets_rules}
+use Rattle.config_cli.proofs.walk.best_found.BestFound.offer.Goals as goal
+use Rattle.config_cli.proofs.walk.best_found.BestFound.offer.Goals.{else-meets_rules-via-then-meets_rules+else-gives_way, else-meets_rules-via-else-meets_rules}
 
 pub returns-then-gives_way-clause-first : goal.returns-then-gives_way-clause-first
 returns-then-gives_way-clause-first c =

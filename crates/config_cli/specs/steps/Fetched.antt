@@ -1,16 +1,28 @@
 -- What a read that stops at the limit shows of a file.
-use Rattle.std.specs.Prelude.{◌≡◌, ℕ, ◌<◌, List, [], length}
+use Rattle.std.specs.Prelude.{◌≡◌, ℕ, ◌<◌, List, [], length, Some}
+use Rattle.cfg_io.specs.Shelves.{file}
 use Rattle.model_reader.specs.Files.{most_bytes}
 use Rattle.model_reader.specs.declared.fault.Refusal.{Refusal}
 use Rattle.model_reader.specs.declared.fault.Refusal.TheVariants.{Fault, Memory}
 use Rattle.config_cli.specs.Texts.{refused_text}
 use Rattle.config_cli.specs.declared.outcome.Fetched.{Fetched}
 use Rattle.config_cli.specs.declared.outcome.Fetched.TheVariants.{Bytes, TooLong}
+use Rattle.config_cli.specs.declared.status.Status.{Status}
+use Rattle.config_cli.specs.declared.status.Status.TheVariants.{Refused}
 
 -- the bytes that were read are the file's; or it has more than a file may have
 abbrev pub IsFetchOf : List ℕ → Fetched → Type 0
 IsFetchOf file (Bytes v) = v.items ≡ file
 IsFetchOf file TooLong = most_bytes < length file
+
+-- what was read is of the file of that name
+abbrev pub IsFetchAt : List (List ℕ × List ℕ) → List ℕ → Fetched → Type 0
+IsFetchAt files name fetched =
+    (bytes : List ℕ) × (file name files ≡ Some bytes) × IsFetchOf bytes fetched
+
+-- it is so of each file that this may have been read of
+abbrev pub ForFile : (List ℕ → Type 0) → Fetched → Type 0
+ForFile P fetched = (bytes : List ℕ) → IsFetchOf bytes fetched → P bytes
 
 -- the refusal of a file that is too long
 abbrev pub IsTooLong : Refusal → Type 0
@@ -23,6 +35,6 @@ HasTwoDigits (Fault f) = f.code < 100
 HasTwoDigits (Memory e) = Unit {0}
 
 -- the status and the line for a fault
-abbrev pub Refuses : List ℕ → Refusal → ℕ → List ℕ → Type 0
-Refuses file (Fault f) status text = (status ≡ 3) × (text ≡ refused_text file f.code)
+abbrev pub Refuses : List ℕ → Refusal → Status → List ℕ → Type 0
+Refuses file (Fault f) status text = (status ≡ Refused) × (text ≡ refused_text file f.code)
 Refuses file (Memory e) status text = ⊥
