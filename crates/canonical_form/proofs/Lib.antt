@@ -4,6 +4,7 @@ pub mod Firsts
 pub mod Entries
 pub mod Places
 pub mod TypeNames
+pub mod FirstRows
 pub mod Joined
 pub mod LinePieces
 pub mod SpelledInstances

@@ -1,4 +1,5 @@
 pub mod FirstDeclared
+pub mod FirstRows
 pub mod Grammar
 pub mod Pieces
 pub mod Reading

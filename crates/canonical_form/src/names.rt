@@ -6,10 +6,11 @@ ghost use Rattle.prod_model.specs.declared.model.TypeDecl.{TypeDecl};
 ghost use Rattle.prod_model.specs.Forest.{line, line_within};
 ghost use Rattle.prod_model.specs.Taxonomy.{declarations_of, attributes_of, attributes_at, ports_of, words_of, first_words};
 ghost use Rattle.prod_model.specs.Valid.{IsValid};
+ghost use Rattle.canonical_form.specs.steps.FirstRows.{AreFirsts};
 ghost use Rattle.canonical_form.specs.steps.FirstDeclared.{with_new, first_declarations};
 
 use indexmap::IndexSet;
-use prod_model::{AttrDecl, Items, Model, PortDecl, TypeDecl};
+use prod_model::{AttrDecl, Items, Model, PortDecl, Problem, TypeDecl};
 use std::alloc::{AllocError, Global};
 
 /// A declaration of an attribute or of a port.
@@ -53,10 +54,52 @@ impl Declaration for PortDecl {
     }
 }
 
+/// The first declarations of a type's attributes and of its ports, each in the type's order.
+#[derive(Drop)]
+pub struct Firsts<'a> {
+    pub attributes: Vec<&'a AttrDecl>,
+    pub ports: Vec<&'a PortDecl>,
+}
+
+/// A problem, with the first declarations of what each of its types has.
+#[derive(Drop)]
+pub struct KnownTypes<'a> {
+    pub problem: &'a Problem,
+    /// In the order of types.
+    pub rows: Vec<Firsts<'a>>,
+}
+
+impl<'a> KnownTypes<'a> {
+    /// The types of a problem. It goes once over the declarations along the line of each.
+    pub fn of(alloc: Global, problem: &'a Problem) -> Result<KnownTypes<'a>, AllocError>
+        ensures problem { IfOk result (λ known. known.problem.now ≡ problem.now) }
+        ensures rows { IfOk result (λ known. AreFirsts known.problem.now known.rows.items) }
+    {
+        Ok(KnownTypes {
+            problem,
+            rows: firsts_by_type(alloc, problem.model())?,
+        })
+    }
+}
+
+fn firsts_by_type<'a>(alloc: Global, model: &'a Model) -> Result<Vec<Firsts<'a>>, AllocError>
+    requires valid { IsValid model.now }
+    ensures { IfOk result (λ rows. AreFirsts model.now rows.items) }
+{
+    let mut rows = Vec::new(alloc);
+    for t in 0..model.types.len() as u32 {
+        rows.push(Firsts {
+            attributes: first_attributes(alloc, model, t)?,
+            ports: first_ports(alloc, model, t)?,
+        })?;
+    }
+    Ok(rows)
+}
+
 /// The first declarations of a type's attributes, in the order of its attributes. They have the
 /// attributes' names, and the words whose places are the attributes' values. It goes once over the
 /// declarations along the type's line.
-pub fn first_attributes<'a>(
+fn first_attributes<'a>(
     alloc: Global,
     model: &'a Model,
     t: u32,
@@ -72,11 +115,7 @@ pub fn first_attributes<'a>(
 
 /// The first declarations of a type's ports, in the order of its ports. They have the ports'
 /// names. It goes once over the declarations along the type's line.
-pub fn first_ports<'a>(
-    alloc: Global,
-    model: &'a Model,
-    t: u32,
-) -> Result<Vec<&'a PortDecl>, AllocError>
+fn first_ports<'a>(alloc: Global, model: &'a Model, t: u32) -> Result<Vec<&'a PortDecl>, AllocError>
     requires valid { IsValid model.now }
     ensures names { IfOk result (λ firsts. map (λ d. d.now.name) firsts.items
         ≡ map (λ e. e.name) (ports_of model.now.types t)) }

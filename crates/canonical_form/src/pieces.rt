@@ -9,16 +9,6 @@ use crate::numbers::{put_numbers, put_signed};
 use prod_model::{AttrAt, AttrDecl, Domain, Items, Name, PortDecl};
 use std::alloc::AllocError;
 
-/// The words of a domain, none of a range.
-pub fn words_of(domain: &Domain) -> &[Name]
-    ensures { result.now ≡ words_of domain.now }
-{
-    match domain {
-        Domain::Range { .. } => &[],
-        Domain::Words(words) => words.as_slice(),
-    }
-}
-
 /// Appends a word, by its place.
 fn put_word(out: &mut Vec<u8>, words: &[Name], value: i64) -> Result<(), AllocError>
     requires { IsTrue (is_word_place (length words.now) value) }
@@ -59,7 +49,7 @@ fn put_attribute(
     out.push(b' ')?;
     out.extend_from_slice(first.name.bytes())?;
     out.push(b'=')?;
-    put_value(out, words_of(&first.domain), &at.domain, value)
+    put_value(out, first.domain.words(), &at.domain, value)
 }
 
 /// Appends the attributes of an instance.

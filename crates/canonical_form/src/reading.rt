@@ -2,6 +2,7 @@
 ghost use Rattle.std.specs.Prelude.{◌≡◌, map, IfOk, IfErr};
 ghost use Rattle.prod_model.specs.Valid.{IsValid};
 ghost use Rattle.canonical_form.specs.BadLine.{IsAnswerOf, IsRefusal};
+ghost use Rattle.canonical_form.specs.steps.FirstRows.{AreFirsts};
 ghost use Rattle.canonical_form.specs.steps.Grammar.{at_number};
 ghost use Rattle.canonical_form.specs.steps.Reading.{AreInstances, Refuses};
 
@@ -12,6 +13,7 @@ mod type_names;
 mod values;
 
 use crate::fault::{AnswerRefusal, PartCode};
+use crate::names::KnownTypes;
 use config_value::{Configuration, Instance};
 use line::read_instance;
 use prod_model::{Items, Problem};
@@ -22,14 +24,15 @@ use type_names::TypeNames;
 /// The instances of all lines, up to the end of the bytes. There are 1 to 64.
 fn read_instances(
     alloc: Global,
-    problem: &Problem,
+    known: &KnownTypes,
     names: &TypeNames<'_>,
     bytes: &[u8],
 ) -> Result<Items<Instance>, AnswerRefusal>
-    requires valid { IsValid problem.now }
-    requires named { names.now ≡ map (λ d. d.name) problem.now.types }
-    ensures read { IfOk result (AreInstances problem.now bytes.now) }
-    ensures refused { IfErr result (Refuses problem.now (at_number 0) bytes.now) }
+    requires valid { IsValid known.now.problem.now }
+    requires firsts { AreFirsts known.now.problem.now known.now.rows.items }
+    requires named { names.now ≡ map (λ d. d.name) known.now.problem.now.types }
+    ensures read { IfOk result (AreInstances known.now.problem.now bytes.now) }
+    ensures refused { IfErr result (Refuses known.now.problem.now (at_number 0) bytes.now) }
 {
     let mut instances = Items::new(alloc);
     let mut number = 0;
@@ -38,7 +41,7 @@ fn read_instances(
         if number == 64 {
             return Err(AnswerRefusal::at(66, PartCode::Number));
         }
-        let (instance, after) = read_instance(alloc, problem, names, number, rest)?;
+        let (instance, after) = read_instance(alloc, known, names, number, rest)?;
         instances.push(instance)?;
         rest = after;
         number += 1;
@@ -47,7 +50,8 @@ fn read_instances(
 }
 
 /// Reads an answer text: the line `preferred`, and then the line of each instance. It goes once
-/// over the bytes, and looks types up by their names.
+/// over the bytes and over the declarations along the line of each type, and looks types up by
+/// their names.
 ///
 /// The text is refused at the first line where it leaves the spelling of a configuration, with the
 /// code of the part at fault. At line 66 that is `Number`, since there are at most 64 instances.
@@ -68,7 +72,8 @@ pub fn read_answer(
     let Some(rest) = behind_byte(b'\n', headed) else {
         return Err(AnswerRefusal::at(1, PartCode::LineEnd));
     };
-    let instances = read_instances(alloc, problem, &names, rest)?;
+    let known = KnownTypes::of(alloc, problem)?;
+    let instances = read_instances(alloc, &known, &names, rest)?;
     Ok(Configuration::from_list(instances))
 }
 

@@ -3,6 +3,7 @@ ghost use Rattle.std.specs.Prelude.{◌≡◌, ◌≢◌, ◌<◌, [], map, IsTr
 ghost use Rattle.prod_model.specs.Forest.{is_leaf};
 ghost use Rattle.prod_model.specs.Valid.{IsValid};
 ghost use Rattle.canonical_form.specs.AnswerParts.{behind_name};
+ghost use Rattle.canonical_form.specs.steps.FirstRows.{AreFirsts};
 ghost use Rattle.canonical_form.specs.steps.Grammar.{at_number};
 ghost use Rattle.canonical_form.specs.steps.Reading.{Takes, TakesNone, type_text, IsInstance, Refuses};
 
@@ -11,6 +12,7 @@ use super::tokens::{Reach, behind_byte, behind_number, split_token};
 use super::type_names::TypeNames;
 use super::values::read_attributes;
 use crate::fault::{AnswerRefusal, PartCode};
+use crate::names::KnownTypes;
 use config_value::Instance;
 use prod_model::Problem;
 use std::alloc::Global;
@@ -42,26 +44,29 @@ fn read_type<'a>(
 /// `Port` where one is not there, and at `LineEnd` where the line does not end there.
 pub fn read_instance<'a>(
     alloc: Global,
-    problem: &Problem,
+    known: &KnownTypes,
     names: &TypeNames<'_>,
     number: u32,
     bytes: &'a [u8],
 ) -> Result<(Instance, &'a [u8]), AnswerRefusal>
-    requires valid { IsValid problem.now }
-    requires named { names.now ≡ map (λ d. d.name) problem.now.types }
+    requires valid { IsValid known.now.problem.now }
+    requires firsts { AreFirsts known.now.problem.now known.now.rows.items }
+    requires named { names.now ≡ map (λ d. d.name) known.now.problem.now.types }
     requires few { number < 64 }
     requires unended { 0 < number → bytes.now ≢ [] }
-    ensures read { IfOk result (λ r. IsInstance problem.now number bytes.now r.0 r.1.now) }
-    ensures refused { IfErr result (Refuses problem.now (at_number number) bytes.now) }
+    ensures read { IfOk result
+        (λ r. IsInstance known.now.problem.now number bytes.now r.0 r.1.now) }
+    ensures refused { IfErr result
+        (Refuses known.now.problem.now (at_number number) bytes.now) }
 {
     let Some(typed) = behind_number(number, bytes) else {
         return Err(AnswerRefusal::at(number + 2, PartCode::Number));
     };
-    let Some((kind, rest)) = read_type(problem, names, typed) else {
+    let Some((kind, rest)) = read_type(known.problem, names, typed) else {
         return Err(AnswerRefusal::at(number + 2, PartCode::TypeName));
     };
-    let (values, rest) = read_attributes(alloc, problem, number, kind, rest)?;
-    let (links, rest) = read_ports(alloc, problem, number, kind, rest)?;
+    let (values, rest) = read_attributes(alloc, known, number, kind, rest)?;
+    let (links, rest) = read_ports(alloc, known, number, kind, rest)?;
     let Some(next) = behind_byte(b'\n', rest) else {
         return Err(AnswerRefusal::at(number + 2, PartCode::LineEnd));
     };

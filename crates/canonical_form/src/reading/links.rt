@@ -1,18 +1,18 @@
 //! Reads the ports of an instance.
-ghost use Rattle.std.specs.Prelude.{◌≡◌, ℕ, ◌≤◌, ◌<◌, List, [], IsTrue, IfOk, IfErr, IfSome, None};
+ghost use Rattle.std.specs.Prelude.{◌≡◌, ℕ, ◌≤◌, ◌<◌, List, [], length, IsTrue, IfOk, IfErr, IfSome, None};
 ghost use Rattle.std.specs.Fmt.{decimal};
-ghost use Rattle.prod_model.specs.Valid.{IsValid};
 ghost use Rattle.prod_model.specs.Taxonomy.{ports_of};
 ghost use Rattle.config_value.specs.Spelled.{is_spelled_links};
 ghost use Rattle.canonical_form.specs.steps.Pieces.{numbers_piece, port_piece};
 ghost use Rattle.canonical_form.specs.AnswerParts.{behind_number, behind_links, links_end};
+ghost use Rattle.canonical_form.specs.steps.FirstRows.{AreFirsts};
 ghost use Rattle.canonical_form.specs.steps.Grammar.{at_members};
 ghost use Rattle.canonical_form.specs.steps.Reading.{Takes, TakesNone, AddsLinks, AreLinks, Refuses, ascends_from, begins_with_digit, is_link_from};
 
 use super::tokens::{Reach, behind_byte, behind_sign, number_of, split_token};
 use crate::fault::{AnswerRefusal, PartCode};
-use crate::names::first_ports;
-use prod_model::{Items, PortDecl, Problem};
+use crate::names::KnownTypes;
+use prod_model::{Items, PortDecl};
 use std::alloc::{AllocError, Global};
 
 /// A number from `low` to 63, and what stands behind it.
@@ -109,21 +109,22 @@ fn read_port<'a>(
 /// once over the ports. Refused at `Port` where one is not there with links that can be written.
 pub fn read_ports<'a>(
     alloc: Global,
-    problem: &Problem,
+    known: &KnownTypes,
     number: u32,
     kind: u32,
     bytes: &'a [u8],
 ) -> Result<(Items<Items<u32>>, &'a [u8]), AnswerRefusal>
-    requires valid { IsValid problem.now }
+    requires typed { kind < length known.now.problem.now.types }
+    requires firsts { AreFirsts known.now.problem.now known.now.rows.items }
     requires few { number < 64 }
-    ensures read { IfOk result (λ r. AreLinks problem.now number kind bytes.now r.0 r.1.now) }
-    ensures refused { IfErr result (Refuses problem.now
-        (at_members number [] (ports_of problem.now.types kind)) bytes.now) }
+    ensures read { IfOk result
+        (λ r. AreLinks known.now.problem.now number kind bytes.now r.0 r.1.now) }
+    ensures refused { IfErr result (Refuses known.now.problem.now
+        (at_members number [] (ports_of known.now.problem.now.types kind)) bytes.now) }
 {
-    let firsts = first_ports(alloc, problem.model(), kind)?;
     let mut ports = Items::new(alloc);
     let mut rest = bytes;
-    for first in &firsts {
+    for first in &known.rows[kind as usize].ports {
         let Some((links, after)) = read_port(alloc, first, rest)? else {
             return Err(AnswerRefusal::at(number + 2, PartCode::Port));
         };

@@ -9,14 +9,15 @@ ghost use Rattle.prod_model.specs.Taxonomy.{words_of, attributes_of, ports_of};
 ghost use Rattle.config_value.specs.Spelled.{is_word_place};
 ghost use Rattle.canonical_form.specs.steps.Pieces.{word_piece, value_piece, is_written_value, is_written, attribute_piece};
 ghost use Rattle.canonical_form.specs.AnswerParts.{behind_number, behind_word, value_end};
+ghost use Rattle.canonical_form.specs.steps.FirstRows.{AreFirsts};
 ghost use Rattle.canonical_form.specs.steps.Grammar.{at_members};
 ghost use Rattle.canonical_form.specs.steps.Reading.{Takes, TakesNone, AreValues, Refuses, end_of_domain, without_sign};
 
 use super::tokens::{Reach, behind_sign, number_of, split_token};
 use crate::fault::{AnswerRefusal, PartCode};
-use crate::names::first_attributes;
-use crate::pieces::words_of;
-use prod_model::{AttrAt, AttrDecl, Domain, Items, Name, Problem};
+use crate::names::KnownTypes;
+use prod_model::limits::FARTHEST_END;
+use prod_model::{AttrAt, AttrDecl, Domain, Items, Name};
 use std::alloc::Global;
 
 /// The longest front of bytes that is a number with its sign, and the rest.
@@ -57,7 +58,7 @@ fn read_number(bytes: &[u8]) -> Option<(i64, &[u8])>
 fn is_within(number: i64) -> bool
     ensures { result ≡ is_within farthest_end number }
 {
-    -1_000_000 <= number && number <= 1_000_000
+    -FARTHEST_END <= number && number <= FARTHEST_END
 }
 
 /// The place of a word among these, and what stands behind it.
@@ -109,7 +110,7 @@ fn read_attribute<'a>(first: &AttrDecl, at: &AttrAt, bytes: &'a [u8]) -> Option<
         (λ v. value_end at.now) (λ v. is_written (first.now, (at.now, v))) bytes.now }
 {
     let rest = behind_sign(first.name.bytes(), b'=', bytes)?;
-    read_value(words_of(&first.domain), &at.domain, rest)
+    read_value(first.domain.words(), &at.domain, rest)
 }
 
 /// Values of all attributes of a type, in the line of an instance, and what stands behind them. It
@@ -117,21 +118,23 @@ fn read_attribute<'a>(first: &AttrDecl, at: &AttrAt, bytes: &'a [u8]) -> Option<
 /// can be written.
 pub fn read_attributes<'a>(
     alloc: Global,
-    problem: &Problem,
+    known: &KnownTypes,
     number: u32,
     kind: u32,
     bytes: &'a [u8],
 ) -> Result<(Items<i64>, &'a [u8]), AnswerRefusal>
-    requires valid { IsValid problem.now }
-    requires typed { kind < length problem.now.types }
+    requires valid { IsValid known.now.problem.now }
+    requires typed { kind < length known.now.problem.now.types }
+    requires firsts { AreFirsts known.now.problem.now known.now.rows.items }
     requires few { number < 64 }
-    ensures read { IfOk result (λ r. AreValues problem.now number kind bytes.now r.0 r.1.now) }
-    ensures refused { IfErr result (Refuses problem.now
-        (at_members number (attributes_of problem.now.types kind) (ports_of problem.now.types kind))
-        bytes.now) }
+    ensures read { IfOk result
+        (λ r. AreValues known.now.problem.now number kind bytes.now r.0 r.1.now) }
+    ensures refused { IfErr result (Refuses known.now.problem.now
+        (at_members number (attributes_of known.now.problem.now.types kind)
+        (ports_of known.now.problem.now.types kind)) bytes.now) }
 {
-    let firsts = first_attributes(alloc, problem.model(), kind)?;
-    let attrs = problem.attrs_of(kind);
+    let firsts = &known.rows[kind as usize].attributes;
+    let attrs = known.problem.attrs_of(kind);
     let mut values = Items::new(alloc);
     let mut rest = bytes;
     for k in 0..attrs.len() {

@@ -8,7 +8,7 @@ use Rattle.canonical_form.proofs.reading.read_instances.Goals.{then-number-eq0, 
 
 pub returns-then-number-eq64-clause-refused : goal.returns-then-number-eq64-clause-refused
 returns-then-number-eq64-clause-refused c =
-    let m = c.args.problem.now in
+    let m = c.args.known.now.problem.now in
     let full = c.if-number-eq64.true in
     let some : c.loop-number.rest.now ≢ [] = elim c.if-number-eq0.branch [
       | then-number-eq0 w ↦ λ e. let none = w.if-number-eq0.true in absurd (omega arith)
@@ -19,7 +19,7 @@ returns-then-number-eq64-clause-refused c =
 
 pub returns-in_err-instance-clause-refused : goal.returns-in_err-instance-clause-refused
 returns-in_err-instance-clause-refused c =
-    let m = c.args.problem.now in
+    let m = c.args.known.now.problem.now in
     let e = c.in_err-instance.field-0.0 in
     same_refusal c.from_residual.result e (Refuses m (at_number 0) c.args.bytes.now) c.from_residual.ensures.1
     (refused_behind m (at_number 0) (at_number c.loop-number.number) c.args.bytes.now c.loop-number.rest.now e
@@ -29,5 +29,5 @@ pub loop-number-preserved : goal.loop-number-preserved
 loop-number-preserved c =
     let most = c.loop-number.invariant.few in
     let other = c.if-number-eq64.false in
-    instances_more c.args.problem.now c.loop-number.number c.args.bytes.now c.loop-number.instances c.loop-number.rest.now c.in_ok-instance.instance c.in_ok-instance.after.now c.push.new.self (omega arith)
+    instances_more c.args.known.now.problem.now c.loop-number.number c.args.bytes.now c.loop-number.instances c.loop-number.rest.now c.in_ok-instance.instance c.in_ok-instance.after.now c.push.new.self (omega arith)
     c.loop-number.invariant c.in_ok-instance.ensures.read c.in_ok-push.ensures.ok

@@ -11,16 +11,16 @@ use Rattle.canonical_form.proofs.reading.line.read_instance.Goals as goal
 
 pub returns-in_default-clause-refused : goal.returns-in_default-clause-refused
 returns-in_default-clause-refused c =
-    let m = c.args.problem.now in
+    let m = c.args.known.now.problem.now in
     let n = c.args.number in
     subst (Refuses m (at_number n) c.args.bytes.now) (sym c.at.ensures) (number_stops m n c.args.bytes.now c.requires.unended (c.in_default.ensures.none refl))
 
 pub read_attributes-requires-clause-typed : goal.read_attributes-requires-clause-typed
-read_attributes-requires-clause-typed c = leaf_is_type c.args.problem.now c.in-Some-read_type.kind c.in-Some-read_type.ensures.found.0
+read_attributes-requires-clause-typed c = leaf_is_type c.args.known.now.problem.now c.in-Some-read_type.kind c.in-Some-read_type.ensures.found.0
 
 pub returns-in_default-read_type-clause-refused : goal.returns-in_default-read_type-clause-refused
 returns-in_default-read_type-clause-refused c =
-    let m = c.args.problem.now in
+    let m = c.args.known.now.problem.now in
     let n = c.args.number in
     let first = number_reads m n c.args.bytes.now c.in-Some.typed.now c.requires.few c.in-Some.ensures.found in
     let stops = type_stops m n c.in-Some.typed.now (c.in_default-read_type.ensures.none refl) in
@@ -29,7 +29,7 @@ returns-in_default-read_type-clause-refused c =
 
 pub returns-in_err-values-clause-refused : goal.returns-in_err-values-clause-refused
 returns-in_err-values-clause-refused c =
-    let m = c.args.problem.now in
+    let m = c.args.known.now.problem.now in
     let n = c.args.number in
     let t = c.in-Some-read_type.kind in
     let first = number_reads m n c.args.bytes.now c.in-Some.typed.now c.requires.few c.in-Some.ensures.found in
@@ -42,7 +42,7 @@ returns-in_err-values-clause-refused c =
 
 pub returns-in_err-links-clause-refused : goal.returns-in_err-links-clause-refused
 returns-in_err-links-clause-refused c =
-    let m = c.args.problem.now in
+    let m = c.args.known.now.problem.now in
     let n = c.args.number in
     let t = c.in-Some-read_type.kind in
     let first = number_reads m n c.args.bytes.now c.in-Some.typed.now c.requires.few c.in-Some.ensures.found in
@@ -58,7 +58,7 @@ returns-in_err-links-clause-refused c =
 
 pub returns-in_default-behind_byte-clause-refused : goal.returns-in_default-behind_byte-clause-refused
 returns-in_default-behind_byte-clause-refused c =
-    let m = c.args.problem.now in
+    let m = c.args.known.now.problem.now in
     let n = c.args.number in
     let t = c.in-Some-read_type.kind in
     let first = number_reads m n c.args.bytes.now c.in-Some.typed.now c.requires.few c.in-Some.ensures.found in
@@ -76,5 +76,8 @@ returns-in_default-behind_byte-clause-refused c =
 pub returns-clause-read : goal.returns-clause-read
 returns-clause-read c =
     let x : Instance = record { kind = c.in-Some-read_type.kind; values = c.in_ok-values.values; links = c.in_ok-links.links } in
-    instance_read c.args.problem.now c.args.number x c.args.bytes.now c.in-Some.typed.now c.in-Some-read_type.rest.now c.in_ok-values.rest.now c.in_ok-links.rest.now c.in-Some-behind_byte.next.now
+    instance_read c.args.known.now.problem.now c.args.number x c.args.bytes.now c.in-Some.typed.now c.in-Some-read_type.rest.now c.in_ok-values.rest.now c.in_ok-links.rest.now c.in-Some-behind_byte.next.now
     c.in-Some.ensures.found c.in-Some-read_type.ensures.found.0 c.in-Some-read_type.ensures.found.1 c.in_ok-values.ensures.read c.in_ok-links.ensures.read c.in-Some-behind_byte.ensures.found
+
+pub read_ports-requires-clause-typed : goal.read_ports-requires-clause-typed
+read_ports-requires-clause-typed c = leaf_is_type c.args.known.now.problem.now c.in-Some-read_type.kind c.in-Some-read_type.ensures.found.0

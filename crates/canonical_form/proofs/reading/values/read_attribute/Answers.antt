@@ -11,6 +11,6 @@ returns-clause-none c none v rest written takes =
     let d = c.args.first.now in
     let domain = c.args.at.now.domain in
     let behind = c.in_ok-rest.rest.now in
-    let never = subst (λ (words : List (List ℕ)). TakesNone (value_piece words domain) (λ u. end_of_domain domain) (is_written_value (length words) domain) behind) c.words_of.ensures (c.read_value.ensures.none none) in
+    let never = subst (λ (words : List (List ℕ)). TakesNone (value_piece words domain) (λ u. end_of_domain domain) (is_written_value (length words) domain) behind) c.words.ensures (c.read_value.ensures.none none) in
     let parts = piece_behind 61 d.name c.bytes.result.now (value_piece (words_of d.domain) domain v) behind rest c.args.bytes.now c.bytes.ensures c.in_ok-rest.ensures.found takes.parts in
     never v rest written (record { parts = parts; ends = takes.ends })
