@@ -219,37 +219,22 @@ fn put_new<'a, D: Declaration>(
 #[cfg(test)]
 mod tests {
     use super::*;
-    use prod_model::{Domain, Name};
+    use model_literals::{range, type_literal, types_of};
     use std::test::Fail;
-
-    fn attribute(name: Name) -> AttrDecl {
-        let domain = Domain::Range { low: 0, high: 9 };
-        AttrDecl { name, domain }
-    }
 
     #[test]
     fn inherited_names_come_first(rt: HostRuntime) -> Result<(), Fail> {
         let alloc = rt.alloc();
-        let mut bike = Items::new(alloc);
-        bike.push(attribute(Name::from_bytes(alloc, b"weight")?))?;
-        bike.push(attribute(Name::from_bytes(alloc, b"seats")?))?;
-        let mut cargo = Items::new(alloc);
-        cargo.push(attribute(Name::from_bytes(alloc, b"load")?))?;
-        cargo.push(attribute(Name::from_bytes(alloc, b"seats")?))?;
+        let bike = [range(b"weight", 0, 9), range(b"seats", 0, 9)];
+        let cargo = [range(b"load", 0, 9), range(b"seats", 0, 9)];
         // The child stands before its parent.
-        let mut types = Items::new(alloc);
-        types.push(TypeDecl {
-            name: Name::from_bytes(alloc, b"Cargo")?,
-            parent: Some(1),
-            attributes: cargo,
-            ports: Items::new(alloc),
-        })?;
-        types.push(TypeDecl {
-            name: Name::from_bytes(alloc, b"Bike")?,
-            parent: None,
-            attributes: bike,
-            ports: Items::new(alloc),
-        })?;
+        let types = types_of(
+            alloc,
+            &[
+                type_literal(b"Cargo", Some(1), &cargo, &[]),
+                type_literal(b"Bike", None, &bike, &[]),
+            ],
+        )?;
         let firsts: Vec<&AttrDecl> = first_declarations(alloc, &types, 0)?;
         let mut names = Vec::new(alloc);
         for first in &firsts {

@@ -103,24 +103,13 @@ pub fn put_ports(
 #[cfg(test)]
 mod tests {
     use super::*;
+    use model_literals::{Values, attribute_of, domain_of, port, port_of, words};
     use prod_model::PortKind;
-    use std::alloc::Global;
     use std::test::Fail;
-
-    fn wheel(alloc: Global) -> Result<PortDecl, AllocError> {
-        let name = Name::from_bytes(alloc, b"wheel")?;
-        Ok(PortDecl {
-            name,
-            kind: PortKind::Part,
-            target: 0,
-            low: 0,
-            high: 3,
-        })
-    }
 
     #[test]
     fn parts_links_by_commas(rt: HostRuntime) -> Result<(), Fail> {
-        let wheel = wheel(rt.alloc())?;
+        let wheel = port_of(rt.alloc(), &port(b"wheel", PortKind::Part, 0, 0, 3))?;
         let mut out = Vec::new(rt.alloc());
         put_port(&mut out, &wheel, &[])?;
         put_port(&mut out, &wheel, &[1])?;
@@ -132,18 +121,9 @@ mod tests {
     #[test]
     fn writes_words_of_the_first_declaration(rt: HostRuntime) -> Result<(), Fail> {
         let alloc = rt.alloc();
-        let mut words = Items::new(alloc);
-        words.push(Name::from_bytes(alloc, b"red")?)?;
-        words.push(Name::from_bytes(alloc, b"blue")?)?;
-        let mut narrowed = Items::new(alloc);
-        narrowed.push(Name::from_bytes(alloc, b"blue")?)?;
-        let name = Name::from_bytes(alloc, b"color")?;
-        let domain = Domain::Words(words);
-        let first = AttrDecl { name, domain };
-        let at = AttrAt {
-            id: 0,
-            domain: Domain::Words(narrowed),
-        };
+        let first = attribute_of(alloc, &words(b"color", &[b"red", b"blue"]))?;
+        let domain = domain_of(alloc, &Values::OneOf(&[b"blue"]))?;
+        let at = AttrAt { id: 0, domain };
         let mut out = Vec::new(alloc);
         put_attribute(&mut out, &first, &at, 1)?;
         assert_eq!(rt; out.as_slice(), b" color=blue".as_slice());
