@@ -3,11 +3,11 @@ use Rattle.std.proofs.Common.{◌≡◌, refl}
 use Rattle.prod_model.specs.Names.{is_name, is_word}
 use Rattle.prod_model.specs.Forest.{is_a, is_forest}
 use Rattle.prod_model.specs.Taxonomy.{attributes_of, ports_of, tables_of}
-use Rattle.prod_model.specs.Valid.{has_short_lists, has_formed_names, has_distinct_names, has_numbers_in_limits, has_known_types, has_one_bound_each, has_known_parents, has_narrowings, has_room, IsDeclared}
+use Rattle.prod_model.specs.Valid.{has_short_lists, has_formed_names, has_distinct_names, has_numbers_in_limits, has_known_types, has_one_bound_each, has_known_parents_and_targets, has_narrowings, has_room, IsDeclared}
 use Rattle.expr_bounds.specs.steps.Sample.{sample, sample_tables}
 
 pub sample_is_declared : IsDeclared sample
-unfolding is_name is_word is_a is_forest attributes_of ports_of has_short_lists has_formed_names has_distinct_names has_numbers_in_limits has_known_types has_one_bound_each has_known_parents has_narrowings has_room
+unfolding is_name is_word is_a is_forest attributes_of ports_of has_short_lists has_formed_names has_distinct_names has_numbers_in_limits has_known_types has_one_bound_each has_known_parents_and_targets has_narrowings has_room
 sample_is_declared = record {
   formed = record { short_lists = refl; formed_names = refl; distinct_names = refl; numbers_in_limits = refl };
   known_types = refl;

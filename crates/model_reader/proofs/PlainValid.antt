@@ -16,7 +16,7 @@ use Rattle.prod_model.specs.Names.{is_name, is_word, is_distinct}
 use Rattle.prod_model.specs.Forest.{is_forest, is_type}
 use Rattle.prod_model.specs.Taxonomy.{ports_of, words_of}
 use Rattle.prod_model.specs.ExprBounds.{is_truth_at}
-use Rattle.prod_model.specs.Valid.{IsValid, has_few_words, has_ends, has_short_lists, has_formed_names, has_distinct_names, has_numbers_in_limits, has_known_parents, has_known_types, has_narrowings, has_room, has_one_bound_each, has_faultless_rules}
+use Rattle.prod_model.specs.Valid.{IsValid, has_few_words, has_ends, has_short_lists, has_formed_names, has_distinct_names, has_numbers_in_limits, has_known_parents_and_targets, has_known_types, has_narrowings, has_room, has_one_bound_each, has_faultless_rules}
 use Rattle.model_reader.specs.Plain.{is_range, is_plain, is_plain_comparison}
 use Rattle.model_reader.specs.PlainFile.{plain_model}
 use Rattle.model_reader.proofs.StepLaws.{not_false, first_holds, second_holds, both_hold, list_all_by, list_all_true}
@@ -117,8 +117,8 @@ module _ (name : List ℕ) (attributes : List AttrDecl) (instances : ℕ) (rules
   unfolding has_room ports_of
   room = rw (attributes_at_alone name attributes instances rules, length_row_from 0 attributes, parts.few) refl
 
-  known_parents : has_known_parents (alone name attributes instances rules) ≡ true
-  unfolding has_known_parents
+  known_parents : has_known_parents_and_targets (alone name attributes instances rules) ≡ true
+  unfolding has_known_parents_and_targets
   known_parents = refl
 
   forest : is_forest (alone name attributes instances rules) ≡ true

@@ -10,7 +10,7 @@ use Rattle.prod_model.specs.declared.model.PortKind.TheVariants.{Part, Shared}
 use Rattle.prod_model.specs.Names.{is_name, is_word}
 use Rattle.prod_model.specs.Forest.{type_numbers, line, ancestors, is_a, is_leaf, is_forest}
 use Rattle.prod_model.specs.Taxonomy.{tables_of, attributes_of, ports_of, attributes_at, ports_at, first_words}
-use Rattle.prod_model.specs.Valid.{IsValid, has_short_lists, has_formed_names, has_distinct_names, has_numbers_in_limits, has_known_parents, has_known_types, has_narrowings, has_room, has_one_bound_each, has_faultless_rules}
+use Rattle.prod_model.specs.Valid.{IsValid, has_short_lists, has_formed_names, has_distinct_names, has_numbers_in_limits, has_known_parents_and_targets, has_known_types, has_narrowings, has_room, has_one_bound_each, has_faultless_rules}
 
 -- Two trees: Item over Card over Big and Small, and Driver. Big stands before its parent Card, and Card before Item.
 -- Card narrows the words of Item in another order, and Big has a port of its own before one that it narrows.
@@ -53,7 +53,7 @@ sample = record { root = 2; instances = 5; types = types; bounds = []; rules = [
 -- everything on this page computes
 computing : Unit {0}
 unfolding is_a is_leaf is_forest attributes_of ports_of tables_of first_words is_name is_word
-    has_short_lists has_formed_names has_distinct_names has_numbers_in_limits has_known_parents has_known_types has_narrowings has_room has_one_bound_each has_faultless_rules
+    has_short_lists has_formed_names has_distinct_names has_numbers_in_limits has_known_parents_and_targets has_known_types has_narrowings has_room has_one_bound_each has_faultless_rules
 computing = tt
 
 line_of_Big : line types 0 ≡ 0 ∷ 1 ∷ 2 ∷ []

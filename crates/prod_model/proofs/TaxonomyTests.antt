@@ -11,7 +11,7 @@ use Rattle.prod_model.specs.declared.model.TypeDecl.{TypeDecl}
 use Rattle.prod_model.specs.declared.model.AttrDecl.{AttrDecl}
 use Rattle.prod_model.specs.declared.model.PortDecl.{PortDecl}
 use Rattle.prod_model.specs.Forest.{is_type, is_in_circle, is_forest}
-use Rattle.prod_model.specs.Valid.{knows_types, has_known_parents, attribute_narrows, port_narrows, has_narrowings, has_room_at, has_room, IsTaxonomy}
+use Rattle.prod_model.specs.Valid.{knows_types, has_known_parents_and_targets, attribute_narrows, port_narrows, has_narrowings, has_room_at, has_room, IsTaxonomy}
 
 -- the parent of a type that knows the types it names is a type
 pub parent_is_type : (m : Model) (d : TypeDecl) (p : ℕ) → d.parent ≡ Some p → IsTrue (knows_types m d) → p < length m.types
@@ -22,7 +22,7 @@ parent_is_type m d p is knows =
 module _ (m : Model) (taxonomy : IsTaxonomy m) where
   -- each type's parent and targets are types
   pub knows_each : (t : ℕ) (d : TypeDecl) → slice_get m.types t ≡ Some d → IsTrue (knows_types m d)
-  unfolding has_known_parents
+  unfolding has_known_parents_and_targets
   knows_each t d has = list_all_at (knows_types m) m.types taxonomy.known_parents t d has
 
   -- no type is its own ancestor

@@ -9,7 +9,7 @@ use Rattle.prod_model.specs.declared.model.Model.{Model}
 use Rattle.prod_model.specs.declared.model.TypeDecl.{TypeDecl}
 use Rattle.prod_model.specs.Forest.{line}
 use Rattle.prod_model.specs.steps.TypeMasks.{has_small_parents}
-use Rattle.prod_model.specs.Valid.{IsValid, has_short_lists, has_known_parents}
+use Rattle.prod_model.specs.Valid.{IsValid, has_short_lists, has_known_parents_and_targets}
 
 -- a valid model has at most 128 types
 pub few_types : (m : Model) → IsValid m → length m.types ≤ 128
@@ -28,5 +28,5 @@ parents_within n [] targets few known = known
 parents_within n (d ∷ types) targets few known = grind (arith, nat_tests, parents_within n types targets few)
 
 pub known_parents : (m : Model) → IsValid m → IsTrue (has_small_parents m.types)
-unfolding has_known_parents
+unfolding has_known_parents_and_targets
 known_parents m valid = parents_within (length m.types) m.types _ (few_types m valid) valid.declared.taxonomy.known_parents

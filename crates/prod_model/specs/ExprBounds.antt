@@ -18,11 +18,14 @@ use Rattle.prod_model.specs.Nesting.{nesting}
 
 -- a number between two bounds, and nothing where one of them leaves the limits
 abbrev pub bounded : ℤ → ℤ → Option Bounds
-bounded low high = if is_within farthest_bound low && is_within farthest_bound high then Some (number low high) else None
+bounded low high =
+    if is_within farthest_bound low && is_within farthest_bound high then Some (number low high)
+    else None
 
 -- from l to h numbers that lie between a and b each: what their sum lies between
 abbrev pub sum_of_some : ℕ → ℕ → ℤ → ℤ → Option Bounds
-sum_of_some l h a b = bounded (int_min (pos l *ℤ a) (pos h *ℤ a)) (int_max (pos l *ℤ b) (pos h *ℤ b))
+sum_of_some l h a b =
+    bounded (int_min (pos l *ℤ a) (pos h *ℤ a)) (int_max (pos l *ℤ b) (pos h *ℤ b))
 
 -- low and high, with one number for each argument added
 abbrev pub sum_of_all : ℤ → ℤ → List (Option Bounds) → Option Bounds
@@ -30,12 +33,15 @@ sum_of_all low high [] = bounded low high
 sum_of_all low high (Some (number a b) ∷ more) = sum_of_all (low +ℤ a) (high +ℤ b) more
 sum_of_all low high _ = None
 
+-- the first number less the second
 abbrev pub difference : Option Bounds → Option Bounds → Option Bounds
 difference (Some (number a b)) (Some (number c d)) = bounded (a -ℤ d) (b -ℤ c)
 difference _ _ = None
 
+-- a number times a factor
 abbrev pub multiple : ℤ → Option Bounds → Option Bounds
-multiple k (Some (number a b)) = bounded (int_min (k *ℤ a) (k *ℤ b)) (int_max (k *ℤ a) (k *ℤ b))
+multiple k (Some (number a b)) =
+    bounded (int_min (k *ℤ a) (k *ℤ b)) (int_max (k *ℤ a) (k *ℤ b))
 multiple k _ = None
 
 -- a truth, if both are numbers
@@ -55,25 +61,34 @@ of_range f a = elim a.domain [ Range low high ↦ f low high | Words words ↦ N
 
 -- the value of a word of the attribute's first declaration, where the attribute has words
 abbrev pub is_word_of : Model → ℕ → AttrAt → Bool
-is_word_of m w a = elim a.domain [ Range low high ↦ false | Words words ↦ nat_lt w (length (first_words m a.id)) ]
+is_word_of m w a =
+    elim a.domain [ Range low high ↦ false | Words words ↦ nat_lt w (length (first_words m a.id)) ]
 
+-- 1 to 64 arguments
 abbrev pub has_arguments : {A : Type 0} → List A → Bool
 has_arguments args = is_between 1 most_arguments (length args)
 
--- what a form is at type t, from what its arguments are at each type: nothing where it has a fault there
+-- what a form is at type t, from what its arguments are at each type: nothing where it has a fault
+-- there
 abbrev pub layer_bounds : Model → Expr-F (ℕ → Option Bounds) → ℕ → Option Bounds
 layer_bounds m (Num n) t = bounded n n
 layer_bounds m (Attr a) t = option_and_then (of_range bounded) (attribute_of m t a)
 layer_bounds m (Count p) t = option_map (λ q. number (pos q.low) (pos q.high)) (port_of m t p)
-layer_bounds m (CountOf p u) t = if is_type m u then option_map (λ q. number (pos 0) (pos q.high)) (port_of m t p) else None
-layer_bounds m (Sum p a) t = option_and_then (λ q. option_and_then (of_range (sum_of_some q.low q.high)) (attribute_of m q.target a)) (port_of m t p)
-layer_bounds m (Total u a) t = option_and_then (of_range (sum_of_some 0 m.instances)) (attribute_of m u a)
+layer_bounds m (CountOf p u) t =
+    if is_type m u then option_map (λ q. number (pos 0) (pos q.high)) (port_of m t p) else None
+layer_bounds m (Sum p a) t =
+    option_and_then (λ q. option_and_then (of_range (sum_of_some q.low q.high))
+    (attribute_of m q.target a)) (port_of m t p)
+layer_bounds m (Total u a) t =
+    option_and_then (of_range (sum_of_some 0 m.instances)) (attribute_of m u a)
 layer_bounds m (Number u) t = if is_type m u then Some (number (pos 0) (pos m.instances)) else None
-layer_bounds m (Add args) t = if has_arguments args then sum_of_all (pos 0) (pos 0) (map (λ e. e t) args) else None
+layer_bounds m (Add args) t =
+    if has_arguments args then sum_of_all (pos 0) (pos 0) (map (λ e. e t) args) else None
 layer_bounds m (Sub e f) t = difference (e t) (f t)
 layer_bounds m (Times k e) t = multiple k (e t)
 layer_bounds m (Cmp r e f) t = comparison (e t) (f t)
-layer_bounds m (Is a w) t = if option_map_or (is_word_of m w) (attribute_of m t a) false then Some truth else None
+layer_bounds m (Is a w) t =
+    if option_map_or (is_word_of m w) (attribute_of m t a) false then Some truth else None
 layer_bounds m (Kind u) t = if is_type m u then Some truth else None
 layer_bounds m (And args) t = if has_arguments args then truth_of (map (λ e. e t) args) else None
 layer_bounds m (Or args) t = if has_arguments args then truth_of (map (λ e. e t) args) else None
@@ -82,15 +97,18 @@ layer_bounds m (If e f) t = truth_of (e t ∷ f t ∷ [])
 layer_bounds m (All p e) t = option_and_then (λ q. truth_of (e q.target ∷ [])) (port_of m t p)
 layer_bounds m (Any p e) t = option_and_then (λ q. truth_of (e q.target ∷ [])) (port_of m t p)
 
--- What the expression is at a type. It is nothing where a name that it uses isn't one there, a number stands where a truth
--- is needed or the reverse, or the bounds of one of its parts leave the limits.
+-- What the expression is at a type. It is nothing where a name that it uses isn't one there, a
+-- number stands where a truth is needed or the reverse, or the bounds of one of its parts leave the
+-- limits.
 unfoldable pub bounds_at : Model → Expr → ℕ → Option Bounds
 bounds_at m e t = fold-Expr (ℕ → Option Bounds) (layer_bounds m) e t
 
+-- a truth, and no number or fault
 abbrev pub is_truth : Option Bounds → Bool
 is_truth (Some truth) = true
 is_truth _ = false
 
+-- a number, and no truth or fault
 abbrev pub is_number : Option Bounds → Bool
 is_number (Some (number low high)) = true
 is_number _ = false

@@ -14,15 +14,19 @@ is_type m t = nat_lt t (length m.types)
 abbrev pub type_numbers : List TypeDecl → List ℕ
 type_numbers types = range_with_len 0 (length types)
 
--- A type, its parent, that one's parent and so on, at most so many of them. It has no members where t is no type.
+-- A type, its parent, that one's parent and so on, at most so many of them. It has no members
+-- where t is no type.
 abbrev pub line_within : ℕ → List TypeDecl → ℕ → List ℕ
 line_within zero types t = []
-line_within (suc most) types t = option_map_or (λ d. t ∷ option_map_or (line_within most types) d.parent []) (slice_get types t) []
+line_within (suc most) types t =
+    option_map_or (λ d. t ∷ option_map_or (line_within most types) d.parent [])
+    (slice_get types t) []
 
 -- A type and its ancestors. A line of more members than there are types has one of them twice.
 abbrev pub line : List TypeDecl → ℕ → List ℕ
 line types t = line_within (suc (length types)) types t
 
+-- what is above a type on its line
 abbrev pub ancestors : List TypeDecl → ℕ → List ℕ
 ancestors types t = drop 1 (line types t)
 
@@ -36,7 +40,8 @@ parent_of m t = option_and_then (λ d. d.parent) (slice_get m.types t)
 
 -- a type that no type has as its parent
 unfoldable pub is_leaf : Model → ℕ → Bool
-is_leaf m t = is_type m t && list_all (λ d. not (option_map_or (λ p. p == t) d.parent false)) m.types
+is_leaf m t =
+    is_type m t && list_all (λ d. not (option_map_or (λ p. p == t) d.parent false)) m.types
 
 -- the type is one of its own ancestors
 abbrev pub is_in_circle : Model → ℕ → Bool

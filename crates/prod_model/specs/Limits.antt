@@ -1,48 +1,59 @@
 -- The limits of a model and an order.
 use Rattle.std.specs.Prelude.{ℕ, ℤ, pos, neg_ℤ, int_le, Bool, ◌&&◌, nat_le}
 
+-- how many types a model has at most
 abbrev pub most_types : ℕ
 most_types = 128
 
--- of one type, inherited ones included
+-- how many attributes a type has at most, inherited ones included
 abbrev pub most_attributes_of_type : ℕ
 most_attributes_of_type = 32
 
+-- how many ports a type has at most, inherited ones included
 abbrev pub most_ports_of_type : ℕ
 most_ports_of_type = 16
 
--- in one file
+-- how many declarations of attributes a model has at most, narrowings included
 abbrev pub most_attribute_declarations : ℕ
 most_attribute_declarations = 256
 
+-- how many declarations of ports a model has at most, narrowings included
 abbrev pub most_port_declarations : ℕ
 most_port_declarations = 256
 
+-- how many words an attribute lists at most
 abbrev pub most_words : ℕ
 most_words = 64
 
+-- how many instances a model allows a configuration at most
 abbrev pub most_instances : ℕ
 most_instances = 64
 
--- of a port, and in an entry of `bounds`
+-- the greatest number of links of a port, and of instances in an entry of `bounds`
 abbrev pub most_links : ℕ
 most_links = 64
 
+-- how many rules a model has at most
 abbrev pub most_rules : ℕ
 most_rules = 1000
 
+-- how many entries of `bounds` a model has at most
 abbrev pub most_bounds : ℕ
 most_bounds = 128
 
+-- how many requests an order has at most
 abbrev pub most_requests : ℕ
 most_requests = 64
 
+-- how many criteria an order has at most
 abbrev pub most_criteria : ℕ
 most_criteria = 8
 
+-- how deep an expression nests at most
 abbrev pub most_nesting : ℕ
 most_nesting = 16
 
+-- how many arguments a sum, an `and` or an `or` has at most
 abbrev pub most_arguments : ℕ
 most_arguments = 64
 

@@ -15,10 +15,11 @@ is_digit b = nat_le 48 b && nat_le b 57
 abbrev pub is_name_byte : ℕ → Bool
 is_name_byte b = is_letter b || is_digit b || (b == 95) || (b == 45)
 
--- the same, or `.`
+-- a letter, a digit, `_`, `-` or `.`
 abbrev pub is_word_byte : ℕ → Bool
 is_word_byte b = is_name_byte b || (b == 46)
 
+-- the first byte is a letter
 abbrev pub begins_with_letter : List ℕ → Bool
 begins_with_letter [] = false
 begins_with_letter (b ∷ bs) = is_letter b

@@ -27,5 +27,6 @@ layer_nesting (If e f) = 1 + max e f
 layer_nesting (All p e) = 1 + e
 layer_nesting (Any p e) = 1 + e
 
+-- how many expressions stand within one another, from the whole one to the innermost
 unfoldable pub nesting : Expr → ℕ
 nesting = fold-Expr ℕ layer_nesting

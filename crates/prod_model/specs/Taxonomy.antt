@@ -1,5 +1,5 @@
 -- What each type has of attributes and ports, inherited ones included.
-use Rattle.std.specs.Prelude.{ℕ, ◌+◌, not, ◌==◌, List, [], ◌∷◌, ◌++◌, map, length, reverse, slice_get, sum_by}
+use Rattle.std.specs.Prelude.{ℕ, ◌+◌, Bool, not, ◌==◌, List, [], ◌∷◌, ◌++◌, map, length, reverse, slice_get, sum_by}
 use Rattle.std.specs.declared.option.Option.{Option}
 use Rattle.std.specs.Option.{option_map_or}
 use Rattle.std.specs.List.{list_any, filter, find, flat_map, fold, range_with_len}
@@ -27,11 +27,18 @@ module _ {D : Type 0} (declared : TypeDecl → List D) (name_of : D → List ℕ
   abbrev pub declarations_of : List TypeDecl → ℕ → List D
   declarations_of types t = option_map_or declared (slice_get types t) []
 
-  -- Those that are new in the type: no ancestor declares the name. It is meant for valid models, where no attribute
-  -- has the name of an inherited port, nor a port that of an inherited attribute.
+  -- an ancestor of the type declares the name
+  abbrev pub is_declared_above : List TypeDecl → ℕ → List ℕ → Bool
+  is_declared_above types t name =
+      list_any (λ e. same_text name (name_of e))
+      (flat_map (declarations_of types) (ancestors types t))
+
+  -- Those that are new in the type: no ancestor declares the name. It is meant for valid models,
+  -- where no attribute has the name of an inherited port, nor a port that of an inherited
+  -- attribute.
   abbrev pub new_declarations : List TypeDecl → ℕ → List D
   new_declarations types t =
-      filter (λ d. not (list_any (λ e. same_text (name_of d) (name_of e)) (flat_map (declarations_of types) (ancestors types t)))) (declarations_of types t)
+      filter (λ d. not (is_declared_above types t (name_of d))) (declarations_of types t)
 
   -- the new declarations of all types, in file order: the id of a declaration is its place here
   abbrev pub all_new_declarations : List TypeDecl → List D
@@ -41,18 +48,24 @@ module _ {D : Type 0} (declared : TypeDecl → List D) (name_of : D → List ℕ
   abbrev pub first_id : List TypeDecl → ℕ → ℕ
   first_id types t = sum_by (λ u. length (new_declarations types u)) (range_with_len 0 t)
 
--- ---- entries: made by a new declaration with its id, and narrowed by a declaration of the same name
+-- ---- entries: made by a new declaration with its id, and narrowed by a declaration of its name
 
-module _ {D A : Type 0} (declared : TypeDecl → List D) (name_of : D → List ℕ) (made : ℕ → D → A) (narrowed : D → A → A) where
+module _ {D A : Type 0} (declared : TypeDecl → List D) (name_of : D → List ℕ)
+    (made : ℕ → D → A) (narrowed : D → A → A) where
+  -- each declaration under its name, made with the ids from this one on
   abbrev pub new_entries : ℕ → List D → List (Named A)
   new_entries id [] = []
-  new_entries id (d ∷ ds) = record { name = name_of d; what = made id d } ∷ new_entries (id + 1) ds
+  new_entries id (d ∷ ds) =
+      record { name = name_of d; what = made id d } ∷ new_entries (id + 1) ds
 
   -- an inherited entry, narrowed where one of the declarations has its name
   abbrev pub kept_entry : List D → Named A → Named A
-  kept_entry ds e = option_map_or (λ d. record { name = e.name; what = narrowed d e.what }) (find (λ d. same_text (name_of d) e.name) ds) e
+  kept_entry ds e =
+      option_map_or (λ d. record { name = e.name; what = narrowed d e.what })
+      (find (λ d. same_text (name_of d) e.name) ds) e
 
-  -- What the parent has, in the parent's order and narrowed in place, and then what is new, in file order.
+  -- What the parent has, in the parent's order and narrowed in place, and then what is new, in
+  -- file order.
   abbrev pub extended_entries : List TypeDecl → List (Named A) → ℕ → List (Named A)
   extended_entries types inherited t =
       map (kept_entry (declarations_of declared name_of types t)) inherited
@@ -64,16 +77,20 @@ module _ {D A : Type 0} (declared : TypeDecl → List D) (name_of : D → List �
 
 -- ---- attributes and ports
 
+-- the attribute of a new declaration
 abbrev pub made_attribute : ℕ → AttrDecl → AttrAt
 made_attribute id d = record { id = id; domain = d.domain }
 
+-- the port of a new declaration
 abbrev pub made_port : ℕ → PortDecl → PortAt
 made_port id d = record { id = id; kind = d.kind; target = d.target; low = d.low; high = d.high }
 
--- a narrowing keeps the id
+-- the attributes of a type under their names, inherited ones first: a narrowing keeps the id
 unfoldable pub attributes_of : List TypeDecl → ℕ → List (Named AttrAt)
-attributes_of = entries_of (λ d. d.attributes) (λ d. d.name) made_attribute (λ d a. made_attribute a.id d)
+attributes_of =
+    entries_of (λ d. d.attributes) (λ d. d.name) made_attribute (λ d a. made_attribute a.id d)
 
+-- the ports of a type under their names, inherited ones first: a narrowing keeps the id
 unfoldable pub ports_of : List TypeDecl → ℕ → List (Named PortAt)
 ports_of = entries_of (λ d. d.ports) (λ d. d.name) made_port (λ d p. made_port p.id d)
 
@@ -92,17 +109,21 @@ tables_of m = record {
   ports = map (ports_at m) (type_numbers m.types);
 }
 
+-- the words of a domain, and none where it is a range
 abbrev pub words_of : Domain → List (List ℕ)
 words_of (Range low high) = []
 words_of (Words words) = words
 
 -- The words of an attribute's first declaration. The value of a word is its place here.
 unfoldable pub first_words : Model → ℕ → List (List ℕ)
-first_words m id = option_map_or (λ d. words_of d.domain) (slice_get (all_new_declarations (λ d. d.attributes) (λ d. d.name) m.types) id) []
+first_words m id =
+    option_map_or (λ d. words_of d.domain)
+    (slice_get (all_new_declarations (λ d. d.attributes) (λ d. d.name) m.types) id) []
 
--- what a type has under an id
+-- the attribute that a type has under an id
 abbrev pub attribute_of : Model → ℕ → ℕ → Option AttrAt
 attribute_of m t id = find (λ a. a.id == id) (attributes_at m t)
 
+-- the port that a type has under an id
 abbrev pub port_of : Model → ℕ → ℕ → Option PortAt
 port_of m t id = find (λ p. p.id == id) (ports_at m t)

@@ -10,7 +10,7 @@ use Rattle.base_laws.proofs.Tests.{list_all_from}
 use Rattle.prod_model.specs.declared.model.Model.{Model}
 use Rattle.prod_model.specs.declared.model.TypeDecl.{TypeDecl}
 use Rattle.prod_model.specs.Forest.{is_in_circle, is_forest}
-use Rattle.prod_model.specs.Valid.{knows_types, has_known_parents, attribute_narrows, port_narrows, has_narrowings, has_distinct_names, has_room_at, has_room, IsTaxonomy}
+use Rattle.prod_model.specs.Valid.{knows_types, has_known_parents_and_targets, attribute_narrows, port_narrows, has_narrowings, has_distinct_names, has_room_at, has_room, IsTaxonomy}
 use Rattle.prod_model.proofs.ForestLines.{no_cycle}
 use Rattle.prod_model.proofs.TaxonomyTests.{parent_is_type, knows_each, free_each, attribute_narrows_each, port_narrows_each, room_each}
 use Rattle.type_taxonomy.specs.declared.fault.TaxFault.{TaxFault}
@@ -31,8 +31,8 @@ passes_below p n each = list_all_from p (range_with_len 0 n) (λ k x at. each x 
 
 -- ---- what a taxonomy is
 
-known_parents : (m : Model) → KnowsBelow m (length m.types) → IsTrue (has_known_parents m)
-unfolding has_known_parents
+known_parents : (m : Model) → KnowsBelow m (length m.types) → IsTrue (has_known_parents_and_targets m)
+unfolding has_known_parents_and_targets
 known_parents m known = passes_each (knows_types m) m.types known
 
 no_circles : (m : Model) → HasNoCircleBelow m (length m.types) → IsTrue (is_forest m)

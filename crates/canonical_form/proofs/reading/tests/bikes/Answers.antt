@@ -11,11 +11,11 @@ use Rattle.prod_model.specs.declared.model.PortAt.{PortAt}
 use Rattle.prod_model.specs.Names.{is_name, is_word}
 use Rattle.prod_model.specs.Forest.{is_forest}
 use Rattle.prod_model.specs.Taxonomy.{tables_of, attributes_of, ports_of}
-use Rattle.prod_model.specs.Valid.{IsValid, has_short_lists, has_formed_names, has_distinct_names, has_numbers_in_limits, has_known_parents, has_known_types, has_narrowings, has_room, has_one_bound_each, has_faultless_rules}
+use Rattle.prod_model.specs.Valid.{IsValid, has_short_lists, has_formed_names, has_distinct_names, has_numbers_in_limits, has_known_parents_and_targets, has_known_types, has_narrowings, has_room, has_one_bound_each, has_faultless_rules}
 use Rattle.canonical_form.proofs.reading.tests.bikes.Goals as goal
 
 computing : Unit {0}
-unfolding is_forest attributes_of ports_of tables_of is_name is_word has_short_lists has_formed_names has_distinct_names has_numbers_in_limits has_known_parents has_known_types has_narrowings has_room has_one_bound_each has_faultless_rules
+unfolding is_forest attributes_of ports_of tables_of is_name is_word has_short_lists has_formed_names has_distinct_names has_numbers_in_limits has_known_parents_and_targets has_known_types has_narrowings has_room has_one_bound_each has_faultless_rules
 computing = tt
 
 abbrev types_of_bikes : List TypeDecl
