@@ -11,7 +11,8 @@ use Rattle.prod_model.specs.declared.model.Domain.TheVariants.{Range, Words}
 use Rattle.prod_model.specs.declared.expr_bounds.Bounds.{Bounds}
 use Rattle.prod_model.specs.declared.expr_bounds.Bounds.TheVariants.{Number, Truth}
 use Rattle.prod_model.specs.Limits.{is_within, farthest_bound}
-use Rattle.prod_model.specs.ExprBounds.{bounded, sum_of_all, difference, multiple, comparison, truth_of, of_range}
+use Rattle.prod_model.specs.ExprBounds.{bounded, difference, multiple, comparison, truth_of, of_range}
+use Rattle.prod_model.specs.steps.ExprBounds.{sum_onto}
 use Rattle.config_value.specs.declared.found.Found.TheVariants as found
 use Rattle.config_value.specs.BoundsHold.{IsWithinBounds}
 use Rattle.answer_check.specs.steps.Evaluable.{IsSmall}
@@ -61,7 +62,7 @@ multiple_limited k (Some (Number x y)) b told = bounded_limited (int_min (k *ℤ
 multiple_limited k (Some Truth) b told = absurd (none-some b told)
 multiple_limited k None b told = absurd (none-some b told)
 
-pub sum_limited : (low high : ℤ) (os : List (Option Bounds)) (b : Bounds) → sum_of_all low high os ≡ Some b → IsLimited b
+pub sum_limited : (low high : ℤ) (os : List (Option Bounds)) (b : Bounds) → sum_onto low high os ≡ Some b → IsLimited b
 sum_limited low high [] b told = bounded_limited low high b told
 sum_limited low high (Some (Number x y) ∷ os) b told = sum_limited (low +ℤ x) (high +ℤ y) os b told
 sum_limited low high (Some Truth ∷ os) b told = absurd (none-some b told)
@@ -91,12 +92,12 @@ comparison_parts (Some Truth) p b told = absurd (none-some b told)
 comparison_parts None p b told = absurd (none-some b told)
 
 module _ {X : Type 0} (f : X → Option Bounds) where
-  pub sum_parts : (low high : ℤ) (xs : List X) (b : Bounds) → sum_of_all low high (map f xs) ≡ Some b → (k : ℕ) (x : X) → slice_get xs k ≡ Some x → IsTold (f x)
+  pub sum_parts : (low high : ℤ) (xs : List X) (b : Bounds) → sum_onto low high (map f xs) ≡ Some b → (k : ℕ) (x : X) → slice_get xs k ≡ Some x → IsTold (f x)
   sum_parts low high [] b told k x at = absurd (none-some x at)
   sum_parts low high (y ∷ xs) b told k x at = by_first (f y) refl told k at (λ low' high' more j there. sum_parts low' high' xs b more j x there)
     where
-      by_first : (o : Option Bounds) → f y ≡ o → sum_of_all low high (o ∷ map f xs) ≡ Some b → (k : ℕ) → slice_get (y ∷ xs) k ≡ Some x
-          → ((low' high' : ℤ) → sum_of_all low' high' (map f xs) ≡ Some b → (j : ℕ) → slice_get xs j ≡ Some x → IsTold (f x)) → IsTold (f x)
+      by_first : (o : Option Bounds) → f y ≡ o → sum_onto low high (o ∷ map f xs) ≡ Some b → (k : ℕ) → slice_get (y ∷ xs) k ≡ Some x
+          → ((low' high' : ℤ) → sum_onto low' high' (map f xs) ≡ Some b → (j : ℕ) → slice_get xs j ≡ Some x → IsTold (f x)) → IsTold (f x)
       by_first (Some (Number z w)) is told zero at rest = (Number z w, ap f (sym (same_Some y x at)) ∙ is)
       by_first (Some (Number z w)) is told (suc k) at rest = rest (low +ℤ z) (high +ℤ w) told k at
       by_first (Some Truth) is told k at rest = absurd (none-some b told)

@@ -9,9 +9,10 @@ use Rattle.prod_model.specs.declared.expr.Expr.TheOpen.{Expr-F, Num, Attr, Count
 use Rattle.prod_model.specs.declared.expr.Expr.TheViews.{out-Expr, roll-Expr, roll-out-Expr}
 use Rattle.prod_model.specs.declared.expr_bounds.Bounds.{Bounds}
 use Rattle.prod_model.specs.Taxonomy.{attribute_of, port_of}
-use Rattle.prod_model.specs.ExprBounds.{bounds_at, sum_of_some, sum_of_all, truth_of, of_range, has_arguments}
+use Rattle.prod_model.specs.ExprBounds.{bounds_at, sum_of_some, truth_of, of_range, has_arguments}
+use Rattle.prod_model.specs.steps.ExprBounds.{sum_onto}
 use Rattle.prod_model.specs.Valid.{IsDeclared}
-use Rattle.prod_model.proofs.ExprBoundsLaws.{bounds_at_Sum, bounds_at_Total, bounds_at_Add, bounds_at_Sub, bounds_at_Times, bounds_at_Cmp, bounds_at_And, bounds_at_Or, bounds_at_Not, bounds_at_If, bounds_at_All, bounds_at_Any}
+use Rattle.prod_model.proofs.ExprBoundsLaws.{bounds_at_Sum, bounds_at_Total, bounds_at_Add_onto, bounds_at_Sub, bounds_at_Times, bounds_at_Cmp, bounds_at_And, bounds_at_Or, bounds_at_Not, bounds_at_If, bounds_at_All, bounds_at_Any}
 use Rattle.config_value.specs.declared.configuration.Instance.{Instance}
 use Rattle.config_value.specs.declared.found.Found.TheVariants as found
 use Rattle.config_value.specs.BoundsHold.{IsWithinBounds}
@@ -92,7 +93,7 @@ module _ (m : Model) (c : List Instance) (is : IsDeclared m) (shaped : IsTrue (i
       small (roll-Expr (Total t a)) _ h (value_at_Total m c i t a) (of_range_limited (sum_of_some 0 m.instances) (sum_some_limited 0 m.instances) attribute.0 h.bounds attribute.2)
   evaluable_roll (Number t) h = tt
   evaluable_roll (Add args) h =
-      let told = if_some (has_arguments args) (sum_of_all (pos 0) (pos 0) (map (λ e. bounds_at m e h.kind) args)) h.bounds (sym (bounds_at_Add m h.kind args) ∙ h.told) in (
+      let told = if_some (has_arguments args) (sum_onto (pos 0) (pos 0) (map (λ e. bounds_at m e h.kind) args)) h.bounds (sym (bounds_at_Add_onto m h.kind args) ∙ h.told) in (
         λ k e at. part (roll-Expr (Add args)) e h (sum_parts (λ x. bounds_at m x h.kind) (pos 0) (pos 0) args h.bounds told k e at),
         small (roll-Expr (Add args)) _ h (value_at_Add m c i args) (sum_limited (pos 0) (pos 0) (map (λ e. bounds_at m e h.kind) args) h.bounds told),
       )

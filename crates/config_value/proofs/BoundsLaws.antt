@@ -18,9 +18,10 @@ use Rattle.prod_model.specs.declared.expr.Expr.TheFolds.{ind-Expr}
 use Rattle.prod_model.specs.declared.expr.Relation.{Relation}
 use Rattle.prod_model.specs.Forest.{is_a, is_type}
 use Rattle.prod_model.specs.Taxonomy.{attribute_of, port_of}
-use Rattle.prod_model.specs.ExprBounds.{bounds_at, bounded, sum_of_some, sum_of_all, truth_of, of_range, has_arguments}
+use Rattle.prod_model.specs.ExprBounds.{bounds_at, bounded, sum_of_some, truth_of, of_range, has_arguments}
+use Rattle.prod_model.specs.steps.ExprBounds.{sum_onto}
 use Rattle.prod_model.specs.Valid.{IsDeclared}
-use Rattle.prod_model.proofs.ExprBoundsLaws.{bounds_at_Num, bounds_at_Attr, bounds_at_Count, bounds_at_CountOf, bounds_at_Sum, bounds_at_Total, bounds_at_Number, bounds_at_Add, bounds_at_Sub, bounds_at_Times, bounds_at_Cmp, bounds_at_Is, bounds_at_Kind, bounds_at_And, bounds_at_Or, bounds_at_Not, bounds_at_If, bounds_at_All, bounds_at_Any}
+use Rattle.prod_model.proofs.ExprBoundsLaws.{bounds_at_Num, bounds_at_Attr, bounds_at_Count, bounds_at_CountOf, bounds_at_Sum, bounds_at_Total, bounds_at_Number, bounds_at_Add_onto, bounds_at_Sub, bounds_at_Times, bounds_at_Cmp, bounds_at_Is, bounds_at_Kind, bounds_at_And, bounds_at_Or, bounds_at_Not, bounds_at_If, bounds_at_All, bounds_at_Any}
 use Rattle.config_value.specs.declared.configuration.Instance.{Instance}
 use Rattle.config_value.specs.declared.found.Found.{Found}
 use Rattle.config_value.specs.declared.found.Found.TheVariants as found
@@ -122,9 +123,9 @@ module _ (m : Model) (c : List Instance) (is : IsDeclared m) (s : HasShape m c) 
 
   -- the sum of expressions that lie within their bounds
   held_add : (es : List ((e : Expr) × IsHeld e)) → IsHeld (roll-Expr (Add (map (λ e. e.0) es)))
-  held_add es i t x at below = held_by (roll-Expr (Add (map (λ e. e.0) es))) i t _ _ (bounds_at_Add m t (map (λ e. e.0) es)) (value_at_Add m c i (map (λ e. e.0) es)) (λ b told.
+  held_add es i t x at below = held_by (roll-Expr (Add (map (λ e. e.0) es))) i t _ _ (bounds_at_Add_onto m t (map (λ e. e.0) es)) (value_at_Add m c i (map (λ e. e.0) es)) (λ b told.
       let parts = map (λ (e : (e : Expr) × IsHeld e). e.0) es in
-      let some = if_some (has_arguments parts) (sum_of_all (pos 0) (pos 0) (map (λ e. bounds_at m e t) parts)) b told in
+      let some = if_some (has_arguments parts) (sum_onto (pos 0) (pos 0) (map (λ e. bounds_at m e t) parts)) b told in
       sum_within (λ e. e.0) (λ e. bounds_at m e t) (λ e. value_at m c i e) (λ e. e.1 i t x at below) es (pos 0) (pos 0) (pos 0) b (omega (arith, ints), omega (arith, ints)) some)
 
   -- the difference of two of them

@@ -11,7 +11,8 @@ use Rattle.prod_model.specs.declared.model.Domain.{Domain}
 use Rattle.prod_model.specs.declared.model.Domain.TheVariants.{Range, Words}
 use Rattle.prod_model.specs.declared.expr_bounds.Bounds.{Bounds}
 use Rattle.prod_model.specs.declared.expr_bounds.Bounds.TheVariants as bounds
-use Rattle.prod_model.specs.ExprBounds.{bounded, sum_of_some, sum_of_all, difference, multiple, comparison, truth_of, of_range}
+use Rattle.prod_model.specs.ExprBounds.{bounded, sum_of_some, difference, multiple, comparison, truth_of, of_range}
+use Rattle.prod_model.specs.steps.ExprBounds.{sum_onto}
 use Rattle.config_value.specs.declared.found.Found.{Found}
 use Rattle.config_value.specs.declared.found.Found.TheVariants as found
 use Rattle.config_value.specs.Value.{as_number, sum_of}
@@ -125,7 +126,7 @@ difference_within None p v w b first second told = absurd (none-some b told)
 
 module _ {E F : Type 0} (part : E → F) (bounds_of : F → Option Bounds) (value : F → Found) (each : (e : E) → IsToldOf (bounds_of (part e)) (value (part e))) where
   -- numbers that lie within what is told of them, added to one that lies between low and high
-  pub sum_within : (es : List E) (low high s : ℤ) (b : Bounds) → IsBetweenNumbers low high s → sum_of_all low high (map bounds_of (map part es)) ≡ Some b
+  pub sum_within : (es : List E) (low high s : ℤ) (b : Bounds) → IsBetweenNumbers low high s → sum_onto low high (map bounds_of (map part es)) ≡ Some b
       → IsWithinBounds b (found.Number (fold ◌+ℤ◌ s (map (λ e. as_number (value e)) (map part es))))
   sum_within [] low high s b between told = number_within low high s b between told
   sum_within (e ∷ es) low high s b between told = by (bounds_of (part e)) (each e) told (λ l h. sum_within es (low +ℤ l) (high +ℤ h) (s +ℤ as_number (value (part e))) b)
@@ -133,9 +134,9 @@ module _ {E F : Type 0} (part : E → F) (bounds_of : F → Option Bounds) (valu
       Within : Type 0
       Within = IsWithinBounds b (found.Number (fold ◌+ℤ◌ (s +ℤ as_number (value (part e))) (map (λ e. as_number (value e)) (map part es))))
 
-      by : (o : Option Bounds) → IsToldOf o (value (part e)) → sum_of_all low high (o ∷ map bounds_of (map part es)) ≡ Some b
+      by : (o : Option Bounds) → IsToldOf o (value (part e)) → sum_onto low high (o ∷ map bounds_of (map part es)) ≡ Some b
           → ((l h : ℤ) → IsBetweenNumbers (low +ℤ l) (high +ℤ h) (s +ℤ as_number (value (part e)))
-          → sum_of_all (low +ℤ l) (high +ℤ h) (map bounds_of (map part es)) ≡ Some b → Within)
+          → sum_onto (low +ℤ l) (high +ℤ h) (map bounds_of (map part es)) ≡ Some b → Within)
           → Within
       by (Some (bounds.Number l h)) told_of told rest =
           let v = number_between l h (value (part e)) (told_of (bounds.Number l h) refl) in

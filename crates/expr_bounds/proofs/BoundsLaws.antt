@@ -6,9 +6,10 @@ use Rattle.prod_model.specs.declared.expr.Expr.{Expr}
 use Rattle.prod_model.specs.declared.expr.Expr.TheOpen.{Expr-F, Num, Attr, Count, CountOf, Sum, Total, Number, Add, Sub, Times, Cmp, Is, Kind, And, Or, Not, If, All, Any}
 use Rattle.prod_model.specs.declared.expr.Expr.TheViews.{out-Expr, roll-Expr, roll-out-Expr}
 use Rattle.prod_model.specs.declared.expr_bounds.Bounds.TheVariants.{Number as number, Truth as truth}
-use Rattle.prod_model.specs.ExprBounds.{bounds_at, sum_of_all, truth_of}
+use Rattle.prod_model.specs.ExprBounds.{bounds_at, truth_of}
+use Rattle.prod_model.specs.steps.ExprBounds.{sum_onto}
 use Rattle.expr_bounds.specs.steps.PlusArgument.{sum_with}
-use Rattle.prod_model.proofs.ExprBoundsLaws.{bounds_at_Num, bounds_at_Attr, bounds_at_Count, bounds_at_CountOf, bounds_at_Sum, bounds_at_Total, bounds_at_Number, bounds_at_Add, bounds_at_Sub, bounds_at_Times, bounds_at_Cmp, bounds_at_Is, bounds_at_Kind, bounds_at_And, bounds_at_Or, bounds_at_Not, bounds_at_If, bounds_at_All, bounds_at_Any}
+use Rattle.prod_model.proofs.ExprBoundsLaws.{bounds_at_Num, bounds_at_Attr, bounds_at_Count, bounds_at_CountOf, bounds_at_Sum, bounds_at_Total, bounds_at_Number, bounds_at_Add_onto, bounds_at_Sub, bounds_at_Times, bounds_at_Cmp, bounds_at_Is, bounds_at_Kind, bounds_at_And, bounds_at_Or, bounds_at_Not, bounds_at_If, bounds_at_All, bounds_at_Any}
 use Rattle.expr_bounds.specs.steps.FormBounds.{form_bounds}
 
 bounds_at_roll : (m : Model) (form : Expr-F Expr) (t : ℕ) → bounds_at m (roll-Expr form) t ≡ form_bounds m form t
@@ -19,7 +20,7 @@ bounds_at_roll m (CountOf p u) t = bounds_at_CountOf m t p u
 bounds_at_roll m (Sum p a) t = bounds_at_Sum m t p a
 bounds_at_roll m (Total u a) t = bounds_at_Total m t u a
 bounds_at_roll m (Number u) t = bounds_at_Number m t u
-bounds_at_roll m (Add args) t = bounds_at_Add m t args
+bounds_at_roll m (Add args) t = bounds_at_Add_onto m t args
 bounds_at_roll m (Sub e f) t = bounds_at_Sub m t e f
 bounds_at_roll m (Times k e) t = bounds_at_Times m t k e
 bounds_at_roll m (Cmp r e f) t = bounds_at_Cmp m t r e f
@@ -49,13 +50,13 @@ truth_none None rest none = refl
 truth_none (Some truth) rest none = cc
 truth_none (Some (number low high)) rest none = refl
 
-sum_first : (low high low' high' : ℤ) (r : Option Bounds) (rest : List (Option Bounds)) → sum_with low high r ≡ Some (low', high') → sum_of_all low' high' rest ≡ sum_of_all low high (r ∷ rest)
+sum_first : (low high low' high' : ℤ) (r : Option Bounds) (rest : List (Option Bounds)) → sum_with low high r ≡ Some (low', high') → sum_onto low' high' rest ≡ sum_onto low high (r ∷ rest)
 sum_first low high low' high' None rest is = cc
 sum_first low high low' high' (Some truth) rest is = cc
 sum_first low high low' high' (Some (number a b)) rest is =
-    let ends = ap (λ o. unwrap_or o (pos 0, pos 0)) is in ap (λ (s : ℤ × ℤ). sum_of_all s.0 s.1 rest) (sym ends)
+    let ends = ap (λ o. unwrap_or o (pos 0, pos 0)) is in ap (λ (s : ℤ × ℤ). sum_onto s.0 s.1 rest) (sym ends)
 
-sum_none : (low high : ℤ) (r : Option Bounds) (rest : List (Option Bounds)) → sum_with low high r ≡ None → None ≡ sum_of_all low high (r ∷ rest)
+sum_none : (low high : ℤ) (r : Option Bounds) (rest : List (Option Bounds)) → sum_with low high r ≡ None → None ≡ sum_onto low high (r ∷ rest)
 sum_none low high None rest none = refl
 sum_none low high (Some truth) rest none = refl
 sum_none low high (Some (number a b)) rest none = cc
@@ -82,11 +83,11 @@ module _ (m : Model) (t : ℕ) (args : List Expr) (i : ℕ) (x : Expr) (r : Opti
   truths_stop all within read is none rest = truth_none r (each (drop (i + 1) args)) none ∙ ap truth_of (sym (each_drop within read is)) ∙ rest
 
   pub sums_turn : (low high low' high' : ℤ) (all : Option Bounds) → i < length args → x ≡ get_or args i x → r ≡ form_bounds m (out-Expr x) t → sum_with low high r ≡ Some (low', high')
-      → sum_of_all low high (each (drop i args)) ≡ all → sum_of_all low' high' (each (drop (i + 1) args)) ≡ all
+      → sum_onto low high (each (drop i args)) ≡ all → sum_onto low' high' (each (drop (i + 1) args)) ≡ all
   sums_turn low high low' high' all within read is more rest =
-      sum_first low high low' high' r (each (drop (i + 1) args)) more ∙ ap (sum_of_all low high) (sym (each_drop within read is)) ∙ rest
+      sum_first low high low' high' r (each (drop (i + 1) args)) more ∙ ap (sum_onto low high) (sym (each_drop within read is)) ∙ rest
 
   pub sums_stop : (low high : ℤ) (all : Option Bounds) → i < length args → x ≡ get_or args i x → r ≡ form_bounds m (out-Expr x) t → sum_with low high r ≡ None
-      → sum_of_all low high (each (drop i args)) ≡ all → None ≡ all
+      → sum_onto low high (each (drop i args)) ≡ all → None ≡ all
   sums_stop low high all within read is none rest =
-      sum_none low high r (each (drop (i + 1) args)) none ∙ ap (sum_of_all low high) (sym (each_drop within read is)) ∙ rest
+      sum_none low high r (each (drop (i + 1) args)) none ∙ ap (sum_onto low high) (sym (each_drop within read is)) ∙ rest

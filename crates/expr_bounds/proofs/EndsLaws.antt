@@ -16,7 +16,8 @@ use Rattle.prod_model.specs.declared.expr.Expr.TheOpen.{Expr-F, Num, Attr, Count
 use Rattle.prod_model.specs.Limits.{is_within, farthest_bound}
 use Rattle.prod_model.specs.Forest.{is_type}
 use Rattle.prod_model.specs.Taxonomy.{attribute_of, port_of, first_words}
-use Rattle.prod_model.specs.ExprBounds.{bounds_at, bounded, sum_of_some, sum_of_all, difference, multiple, comparison, truth_of, of_range, is_word_of, has_arguments}
+use Rattle.prod_model.specs.ExprBounds.{bounds_at, bounded, sum_of_some, difference, multiple, comparison, truth_of, of_range, is_word_of, has_arguments}
+use Rattle.prod_model.specs.steps.ExprBounds.{sum_onto}
 use Rattle.expr_bounds.specs.steps.Arguments.{argument_list, has_right_count}
 use Rattle.expr_bounds.specs.Parts.{type_of_arguments}
 use Rattle.expr_bounds.specs.steps.FormBounds.{form_bounds}
@@ -77,7 +78,7 @@ limited_more low high e (Some s) =
     let a : (low +ℤ e.0) +ℤ s.0 ≡ low +ℤ (e.0 +ℤ s.0) = omega (arith, ints) in
     let b : (high +ℤ e.1) +ℤ s.1 ≡ high +ℤ (e.1 +ℤ s.1) = omega (arith, ints) in rw (a, b) refl
 
-sums_limited : (low high : ℤ) (xs : List (Option Bounds)) → sum_of_all low high xs ≡ limited_from low high (ends_of_all xs)
+sums_limited : (low high : ℤ) (xs : List (Option Bounds)) → sum_onto low high xs ≡ limited_from low high (ends_of_all xs)
 sums_limited low high [] =
     let a : low +ℤ pos 0 ≡ low = omega (arith, ints) in
     let b : high +ℤ pos 0 ≡ high = omega (arith, ints) in rw (a, b) refl
@@ -91,7 +92,7 @@ from_zero (Some s) =
     let a : pos 0 +ℤ s.0 ≡ s.0 = omega (arith, ints) in
     let b : pos 0 +ℤ s.1 ≡ s.1 = omega (arith, ints) in rw (a, b) refl
 
-all_limited : (xs : List (Option Bounds)) → sum_of_all (pos 0) (pos 0) xs ≡ limited (ends_of_all xs)
+all_limited : (xs : List (Option Bounds)) → sum_onto (pos 0) (pos 0) xs ≡ limited (ends_of_all xs)
 all_limited xs = sums_limited (pos 0) (pos 0) xs ∙ from_zero (ends_of_all xs)
 
 difference_limited : (a b : Option Bounds) → difference a b ≡ limited (option_and_then (λ d. option_map (ends_of_difference d) (ends_within b)) (ends_within a))
@@ -289,7 +290,7 @@ unbounded_wide m (Total u a) t names attributes kinds count none =
 unbounded_wide m (Number u) t names attributes kinds count none = none_some _ (if_some (is_type m u) _ (known _ 1 names) refl) none
 unbounded_wide m (Add args) t names attributes kinds count none =
     let each = map (λ e. bounds_at m e t) args in
-    let here : sum_of_all (pos 0) (pos 0) each ≡ None = sym (ap (λ b. if b then sum_of_all (pos 0) (pos 0) each else None) count) ∙ none in
+    let here : sum_onto (pos 0) (pos 0) each ≡ None = sym (ap (λ b. if b then sum_onto (pos 0) (pos 0) each else None) count) ∙ none in
     wide_of_none (ends_of m (Add args) t) (all_some each (listed_kinds m t false args kinds)) (sym (all_limited each) ∙ here)
 unbounded_wide m (Sub e f) t names attributes kinds count none =
     let a = bounds_at m e t in

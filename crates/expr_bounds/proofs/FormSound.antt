@@ -18,7 +18,8 @@ use Rattle.prod_model.specs.declared.expr.Expr.TheOpen.{Expr-F, Num, Attr, Count
 use Rattle.prod_model.specs.declared.expr.Expr.TheViews.{out-Expr}
 use Rattle.prod_model.specs.Forest.{is_type}
 use Rattle.prod_model.specs.Taxonomy.{attribute_of, port_of, first_words}
-use Rattle.prod_model.specs.ExprBounds.{bounds_at, bounded, sum_of_some, sum_of_all, difference, multiple, comparison, truth_of, of_range, is_word_of, has_arguments}
+use Rattle.prod_model.specs.ExprBounds.{bounds_at, bounded, sum_of_some, difference, multiple, comparison, truth_of, of_range, is_word_of, has_arguments}
+use Rattle.prod_model.specs.steps.ExprBounds.{sum_onto}
 use Rattle.expr_bounds.specs.steps.Arguments.{argument_list}
 use Rattle.expr_bounds.specs.Parts.{type_of_arguments}
 use Rattle.expr_bounds.specs.steps.FormBounds.{form_bounds}
@@ -102,8 +103,8 @@ truths_kinds (None ∷ xs) is = absurd (false≢true is)
 truths_kinds (Some (number low high) ∷ xs) is = absurd (false≢true is)
 truths_kinds (Some truth ∷ xs) is = let rest = truths_kinds xs is in (rest.0, first_or_rest (Some truth) xs true refl rest.1)
 
-sums_kinds : (low high : ℤ) (xs : List (Option Bounds)) → IsBounded (sum_of_all low high xs)
-    → (kind_of (sum_of_all low high xs) ≡ Some false) × ((i : ℕ) (x : Option Bounds) → slice_get xs i ≡ Some x → kind_of x ≡ Some false)
+sums_kinds : (low high : ℤ) (xs : List (Option Bounds)) → IsBounded (sum_onto low high xs)
+    → (kind_of (sum_onto low high xs) ≡ Some false) × ((i : ℕ) (x : Option Bounds) → slice_get xs i ≡ Some x → kind_of x ≡ Some false)
 sums_kinds low high [] is = (number_kind low high is, λ i x found. cc)
 sums_kinds low high (None ∷ xs) is = absurd (false≢true is)
 sums_kinds low high (Some truth ∷ xs) is = absurd (false≢true is)

@@ -5,8 +5,9 @@ ghost use Rattle.prod_model.specs.Forest.{is_type as is_type_of};
 ghost use Rattle.prod_model.specs.declared.expr.Expr.TheViews.{out-Expr};
 ghost use Rattle.prod_model.specs.Limits.{most_arguments};
 ghost use Rattle.prod_model.specs.Taxonomy.{tables_of, attribute_of as attribute_at, port_of as port_at};
-ghost use Rattle.prod_model.specs.ExprBounds.{bounds_at, sum_of_all as sum_of_list, sum_of_some as sum_between, of_range, truth_of, has_arguments};
+ghost use Rattle.prod_model.specs.ExprBounds.{bounds_at, sum_of_some as sum_between, of_range, truth_of, has_arguments};
 ghost use Rattle.prod_model.specs.Valid.{IsDeclared};
+ghost use Rattle.prod_model.specs.steps.ExprBounds.{sum_onto};
 ghost use Rattle.expr_bounds.specs.steps.FormBounds.{form_bounds as bounds_of_form};
 
 use crate::form::may_list;
@@ -122,7 +123,7 @@ fn sum_of_all(model: &Model, tables: &Tables, args: &[Expr], at: u32) -> Option<
     requires declared { IsDeclared model.now }
     requires tables { tables.now ≡ tables_of model.now }
     requires few { length args.now ≤ most_arguments }
-    ensures { result ≡ sum_of_list (pos 0) (pos 0) (map (λ e. bounds_at model.now e at) args.now) }
+    ensures { result ≡ sum_onto (pos 0) (pos 0) (map (λ e. bounds_at model.now e at) args.now) }
 {
     let mut sum = Sum::new();
     for arg in args {

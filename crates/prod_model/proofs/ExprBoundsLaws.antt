@@ -1,9 +1,9 @@
 -- What `bounds_at` and `nesting` are at each form of expression.
-use Rattle.std.specs.Prelude.{◌≡◌, ℕ, ℤ, pos, ◌+◌, max, false, List, [], ◌∷◌, map, if◌then◌else◌, Some, None}
+use Rattle.std.specs.Prelude.{◌≡◌, ℕ, ℤ, pos, ◌+◌, ◌+ℤ◌, max, false, List, [], ◌∷◌, map, if◌then◌else◌, Some, None}
 use Rattle.std.specs.declared.option.Option.{Option}
 use Rattle.std.specs.Option.{option_map_or, option_and_then, option_map}
-use Rattle.std.specs.List.{fold}
-use Rattle.std.proofs.Common.{ap, ◌∙◌}
+use Rattle.std.specs.List.{list_all, fold}
+use Rattle.std.proofs.Common.{ap, ◌∙◌, refl}
 use Rattle.std.proofs.lemmas.List.{length-map}
 use Rattle.std.proofs.lemmas.List.Folds.{fold-map}
 use Rattle.std.proofs.lemmas.Simd.{map-map}
@@ -18,7 +18,21 @@ use Rattle.prod_model.specs.declared.expr.Relation.{Relation}
 use Rattle.prod_model.specs.Forest.{is_type}
 use Rattle.prod_model.specs.Taxonomy.{attribute_of, port_of}
 use Rattle.prod_model.specs.Nesting.{nesting, layer_nesting}
-use Rattle.prod_model.specs.ExprBounds.{bounds_at, layer_bounds, bounded, sum_of_some, sum_of_all, difference, multiple, comparison, truth_of, of_range, is_word_of, has_arguments}
+use Rattle.prod_model.specs.steps.ExprBounds.{sum_onto}
+use Rattle.prod_model.specs.ExprBounds.{bounds_at, layer_bounds, bounded, is_number, low_of, high_of, sum_of_some, sum_of_all, difference, multiple, comparison, truth_of, of_range, is_word_of, has_arguments}
+
+-- the sums of the lows and of the highs, begun at any two numbers, are what adding one argument after another gives
+sum_added : (low high : ℤ) (os : List (Option Bounds))
+    → (if list_all is_number os then bounded (fold ◌+ℤ◌ low (map low_of os)) (fold ◌+ℤ◌ high (map high_of os)) else None)
+    ≡ sum_onto low high os
+sum_added low high [] = refl
+sum_added low high (Some (number a b) ∷ os) = sum_added (low +ℤ a) (high +ℤ b) os
+sum_added low high (Some truth ∷ os) = refl
+sum_added low high (None ∷ os) = refl
+
+-- the sum of all arguments is found by adding one after another to 0
+pub sum_of_all_added : (os : List (Option Bounds)) → sum_of_all os ≡ sum_onto (pos 0) (pos 0) os
+sum_of_all_added os = sum_added (pos 0) (pos 0) os
 
 module _ (m : Model) (t : ℕ) where
   pub bounds_at_Num : (n : ℤ) → bounds_at m (roll-Expr (Num n)) t ≡ bounded n n
@@ -49,9 +63,16 @@ module _ (m : Model) (t : ℕ) where
   unfolding bounds_at
   bounds_at_Number u = ap (λ (f : ℕ → Option Bounds). f t) (fold-roll-Expr (ℕ → Option Bounds) (layer_bounds m) (Number u))
 
-  pub bounds_at_Add : (es : List Expr) → bounds_at m (roll-Expr (Add es)) t ≡ (if has_arguments es then sum_of_all (pos 0) (pos 0) (map (λ e. bounds_at m e t) es) else None)
+  pub bounds_at_Add : (es : List Expr) → bounds_at m (roll-Expr (Add es)) t ≡ (if has_arguments es then sum_of_all (map (λ e. bounds_at m e t) es) else None)
   unfolding bounds_at
   bounds_at_Add es = ap (λ (f : ℕ → Option Bounds). f t) (fold-roll-Expr (ℕ → Option Bounds) (layer_bounds m) (Add es)) ∙ simp (map-map, length-map)
+
+  -- the same, adding one argument after another
+  pub bounds_at_Add_onto : (es : List Expr) → bounds_at m (roll-Expr (Add es)) t
+      ≡ (if has_arguments es then sum_onto (pos 0) (pos 0) (map (λ e. bounds_at m e t) es) else None)
+  bounds_at_Add_onto es =
+      bounds_at_Add es
+      ∙ ap (λ o. if has_arguments es then o else None) (sum_of_all_added (map (λ e. bounds_at m e t) es))
 
   pub bounds_at_Sub : (e f : Expr) → bounds_at m (roll-Expr (Sub e f)) t ≡ difference (bounds_at m e t) (bounds_at m f t)
   unfolding bounds_at

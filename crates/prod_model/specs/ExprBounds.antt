@@ -3,6 +3,7 @@ use Rattle.std.specs.Prelude.{ℕ, ℤ, pos, ◌+ℤ◌, ◌-ℤ◌, ◌*ℤ◌,
 use Rattle.std.specs.declared.option.Option.{Option}
 use Rattle.std.specs.Option.{option_map_or, option_and_then, option_map}
 use Rattle.std.specs.Int.{int_min, int_max}
+use Rattle.std.specs.List.{list_all, fold}
 use Rattle.prod_model.specs.declared.model.Model.{Model}
 use Rattle.prod_model.specs.declared.model.AttrAt.{AttrAt}
 use Rattle.prod_model.specs.declared.model.Domain.TheVariants.{Range, Words}
@@ -27,11 +28,30 @@ abbrev pub sum_of_some : ℕ → ℕ → ℤ → ℤ → Option Bounds
 sum_of_some l h a b =
     bounded (int_min (pos l *ℤ a) (pos h *ℤ a)) (int_max (pos l *ℤ b) (pos h *ℤ b))
 
--- low and high, with one number for each argument added
-abbrev pub sum_of_all : ℤ → ℤ → List (Option Bounds) → Option Bounds
-sum_of_all low high [] = bounded low high
-sum_of_all low high (Some (number a b) ∷ more) = sum_of_all (low +ℤ a) (high +ℤ b) more
-sum_of_all low high _ = None
+-- a number, and no truth or fault
+abbrev pub is_number : Option Bounds → Bool
+is_number (Some (number low high)) = true
+is_number _ = false
+
+-- the low end of a number
+abbrev pub low_of : Option Bounds → ℤ
+low_of (Some (number low high)) = low
+low_of _ = pos 0
+
+-- the high end of a number
+abbrev pub high_of : Option Bounds → ℤ
+high_of (Some (number low high)) = high
+high_of _ = pos 0
+
+-- the sum of whole numbers
+abbrev pub sum_of : List ℤ → ℤ
+sum_of ns = fold ◌+ℤ◌ (pos 0) ns
+
+-- from the sum of the lows to the sum of the highs, and nothing where one of them is no number
+abbrev pub sum_of_all : List (Option Bounds) → Option Bounds
+sum_of_all args =
+    if list_all is_number args then bounded (sum_of (map low_of args)) (sum_of (map high_of args))
+    else None
 
 -- the first number less the second
 abbrev pub difference : Option Bounds → Option Bounds → Option Bounds
@@ -83,7 +103,7 @@ layer_bounds m (Total u a) t =
     option_and_then (of_range (sum_of_some 0 m.instances)) (attribute_of m u a)
 layer_bounds m (Number u) t = if is_type m u then Some (number (pos 0) (pos m.instances)) else None
 layer_bounds m (Add args) t =
-    if has_arguments args then sum_of_all (pos 0) (pos 0) (map (λ e. e t) args) else None
+    if has_arguments args then sum_of_all (map (λ e. e t) args) else None
 layer_bounds m (Sub e f) t = difference (e t) (f t)
 layer_bounds m (Times k e) t = multiple k (e t)
 layer_bounds m (Cmp r e f) t = comparison (e t) (f t)
@@ -107,11 +127,6 @@ bounds_at m e t = fold-Expr (ℕ → Option Bounds) (layer_bounds m) e t
 abbrev pub is_truth : Option Bounds → Bool
 is_truth (Some truth) = true
 is_truth _ = false
-
--- a number, and no truth or fault
-abbrev pub is_number : Option Bounds → Bool
-is_number (Some (number low high)) = true
-is_number _ = false
 
 -- a truth without fault at a type
 abbrev pub is_truth_at : Model → ℕ → Expr → Bool

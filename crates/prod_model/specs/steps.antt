@@ -1,1 +1,2 @@
 pub mod TypeMasks
+pub mod ExprBounds

@@ -9,7 +9,8 @@ use Rattle.prod_model.specs.declared.expr.Expr.{Expr}
 use Rattle.prod_model.specs.declared.expr.Expr.TheOpen.{Expr-F, Num, Attr, Count, CountOf, Sum, Total, Number, Add, Sub, Times, Cmp, Is, Kind, And, Or, Not, If, All, Any}
 use Rattle.prod_model.specs.Forest.{is_type}
 use Rattle.prod_model.specs.Taxonomy.{attribute_of, port_of}
-use Rattle.prod_model.specs.ExprBounds.{bounds_at, bounded, sum_of_some, sum_of_all, difference, multiple, comparison, truth_of, of_range, is_word_of, has_arguments}
+use Rattle.prod_model.specs.ExprBounds.{bounds_at, bounded, sum_of_some, difference, multiple, comparison, truth_of, of_range, is_word_of, has_arguments}
+use Rattle.prod_model.specs.steps.ExprBounds.{sum_onto}
 
 abbrev pub form_bounds : Model → Expr-F Expr → ℕ → Option Bounds
 form_bounds m (Num n) t = bounded n n
@@ -25,7 +26,7 @@ form_bounds m (Total u a) t =
 form_bounds m (Number u) t = if is_type m u then Some (number (pos 0) (pos m.instances)) else None
 form_bounds m (Add args) t =
     if has_arguments args
-    then sum_of_all (pos 0) (pos 0) (map (λ e. bounds_at m e t) args)
+    then sum_onto (pos 0) (pos 0) (map (λ e. bounds_at m e t) args)
     else None
 form_bounds m (Sub e f) t = difference (bounds_at m e t) (bounds_at m f t)
 form_bounds m (Times k e) t = multiple k (bounds_at m e t)
