@@ -1,5 +1,5 @@
 -- What stands at a place of a list that is mapped, filtered, joined or searched.
-use Rattle.std.proofs.Common.{◌≡◌, ℕ, zero, suc, ◌<◌, ◌+◌, Bool, true, false, cond, List, [], ◌∷◌, ◌++◌, length, get_or, map, Some, refl, sym, ap, ◌∙◌, subst, arith}
+use Rattle.std.proofs.Common.{◌≡◌, ℕ, zero, suc, ◌<◌, ◌+◌, Bool, true, false, cond, List, [], ◌∷◌, ◌++◌, length, get_or, map, Some, refl, sym, ap, ◌∙◌, subst, inl, inr, ◌⊎◌, zero-add, arith}
 use Rattle.std.specs.Prelude.{IsTrue, slice_get}
 use Rattle.std.specs.Option.{option_map}
 use Rattle.std.specs.List.{filter, find, position, position_from}
@@ -98,3 +98,22 @@ position_is p xs k from = position_from-zero p xs ∙ from 0 ∙ ap Some (omega 
 -- what was read of a list at a place in range stands there in a list that is equal
 pub read_at : {X : Type 0} (xs ys : List X) (k : ℕ) (x : X) → xs ≡ ys → k < length xs → x ≡ get_or xs k x → slice_get ys k ≡ Some x
 read_at xs ys k x same within is = ap (λ zs. slice_get zs k) (sym same) ∙ slice_get_read xs (length xs) k x refl within is
+
+-- ---- lists one after another
+
+-- what stands in the second list stands in both together, as many places further on as the first has elements
+pub at_back : {A : Type 0} (xs ys : List A) (j : ℕ) (y : A) → IsAt ys j y → IsAt (xs ++ ys) (length xs + j) y
+at_back [] ys j y there = subst (λ k. IsAt ys k y) (sym (zero-add j)) there
+at_back (x ∷ xs) ys j y there =
+    let e : length (x ∷ xs) + j ≡ suc (length xs + j) = omega arith in
+    subst (λ k. IsAt (x ∷ (xs ++ ys)) k y) (sym e) (at_back xs ys j y there)
+
+-- what stands in two lists together stands in the first, or so much further on in the second
+pub at_either : {A : Type 0} (xs ys : List A) (k : ℕ) (x : A) → IsAt (xs ++ ys) k x
+    → IsAt xs k x ⊎ ((j : ℕ) × (k ≡ length xs + j) × IsAt ys j x)
+at_either [] ys k x there = inr (k, sym (zero-add k), there)
+at_either (z ∷ xs) ys zero x there = inl there
+at_either (z ∷ xs) ys (suc k) x there = elim (at_either xs ys k x there) [
+  | inl front ↦ inl front
+  | inr back ↦ inr (back.0, omega (arith, back.1), back.2)
+]

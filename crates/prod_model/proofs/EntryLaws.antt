@@ -1,5 +1,5 @@
 -- The entries of a type: from its parent's, their names, and the new declarations in file order.
-use Rattle.std.proofs.Common.{◌≡◌, ℕ, suc, ◌<◌, ◌+◌, ◌-◌, List, [], ◌∷◌, ◌++◌, map, reverse, length, Option, Some, None, refl, ap, ◌∙◌, zero-add, arith}
+use Rattle.std.proofs.Common.{append_assoc, append-nil, sym, ◌≡◌, ℕ, suc, ◌<◌, ◌+◌, ◌-◌, List, [], ◌∷◌, ◌++◌, map, reverse, length, Option, Some, None, refl, ap, ◌∙◌, zero-add, arith}
 use Rattle.std.specs.Prelude.{slice_get}
 use Rattle.std.specs.Option.{option_map_or}
 use Rattle.std.specs.List.{find, flat_map, fold, range_with_len}
@@ -79,6 +79,20 @@ module _ {D A : Type 0} (declared : TypeDecl → List D) (name_of : D → List �
           ≡ option_map_or (entries_of declared name_of made narrowed types) o []
       by None = refl
       by (Some p) = refl
+
+  -- the names along a line, after those of some entries
+  names_fold : (types : List TypeDecl) (us : List ℕ) (es : List (Named A)) → map (λ e. e.name) (fold (extended_entries declared name_of made narrowed types) es us) ≡ map (λ e. e.name) es ++ map name_of (flat_map (new_declarations declared name_of types) us)
+  names_fold types [] es = sym (append-nil (map (λ e. e.name) es))
+  names_fold types (u ∷ us) es =
+      let new = new_declarations declared name_of types in
+      names_fold types us (extended_entries declared name_of made narrowed types es u)
+      ∙ ap (λ ns. ns ++ map name_of (flat_map new us)) (names_extended types es u)
+      ∙ append_assoc (map (λ e. e.name) es) (map name_of (new u)) (map name_of (flat_map new us))
+      ∙ ap (λ ns. map (λ e. e.name) es ++ ns) (sym (map-append name_of (new u) (flat_map new us)))
+
+  -- the names of a type's entries are those of the new declarations along its line
+  pub names_entries_of : (types : List TypeDecl) (t : ℕ) → map (λ e. e.name) (entries_of declared name_of made narrowed types t) ≡ map name_of (flat_map (new_declarations declared name_of types) (reverse (line types t)))
+  names_entries_of types t = names_fold types (reverse (line types t)) []
 
 module _ {D : Type 0} (declared : TypeDecl → List D) (name_of : D → List ℕ) where
   -- the new declarations of a type stand in file order after those of the types before it

@@ -2,6 +2,10 @@ pub mod TaxonomyLaws
 pub mod NameLaws
 pub mod ForestLines
 pub mod EntryLaws
+pub mod EntryPlaces
+pub mod EntryLimits
+pub mod LeafLaws
+pub mod IdLaws
 pub mod ValidModels
 pub mod Rows
 pub mod FirstWords

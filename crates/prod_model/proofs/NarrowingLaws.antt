@@ -165,7 +165,7 @@ abbrev distinct_members : TypeDecl → Bool
 distinct_members d = is_distinct (map (λ a. a.name) d.attributes ++ map (λ p. p.name) d.ports) && list_all (λ a. is_distinct (words_of a.domain)) d.attributes
 
 -- no declaration's name stands twice among a type's attributes, nor among its ports
-distinct_declarations : (m : Model) → IsDeclared m → (u : ℕ)
+pub distinct_declarations : (m : Model) → IsDeclared m → (u : ℕ)
     → IsTrue (is_distinct (map (λ d. d.name) (declarations_of (λ d. d.attributes) (λ d. d.name) m.types u)))
     × IsTrue (is_distinct (map (λ d. d.name) (declarations_of (λ d. d.ports) (λ d. d.name) m.types u)))
 unfolding has_distinct_names

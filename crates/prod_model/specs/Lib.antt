@@ -8,4 +8,5 @@ pub mod ExprBounds
 pub mod Valid
 pub mod TypeMasks
 pub mod Problem
+pub mod Laws
 pub mod steps

@@ -4,6 +4,7 @@
 mod copies;
 mod expr;
 mod expr_bounds;
+pub mod laws;
 pub mod limits;
 mod model;
 mod name;
