@@ -24,6 +24,7 @@ mod NarrowingExamples
 mod OrderExamples
 pub mod LineLaws
 pub mod NarrowingLaws
+pub mod FirstDomains
 pub mod NoTypes
 pub mod EntryNames
 pub mod Ancestors

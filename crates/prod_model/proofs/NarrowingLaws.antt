@@ -1,11 +1,11 @@
 -- A type has each attribute and port of the types above it, in the same place and under the same id, narrowed.
 use Rattle.std.proofs.Common.{◌≡◌, ℕ, zero, suc, ◌≤◌, Bool, true, false, not, cond, ◌&&◌, List, [], ◌∷◌, ◌++◌, map, Option, Some, None, refl, sym, ap, ◌∙◌, subst, inl, inr, le_refl, leb-true, arith}
-use Rattle.std.specs.Prelude.{slice_get, IsTrue, ◌≤ℤ◌, nat_le}
+use Rattle.std.specs.Prelude.{slice_get, IsTrue, ℤ, int_le, ◌≤ℤ◌, nat_le}
 use Rattle.std.specs.Option.{option_map, option_map_or, option_and_then}
-use Rattle.std.specs.List.{list_all, find}
+use Rattle.std.specs.List.{list_any, list_all, find}
 use Rattle.std.specs.Bool.{passes}
 use Rattle.std.specs.Int.Signed.{le_z_yes}
-use Rattle.std.proofs.lemmas.Bool.{false≢true, and_parts, false_from_ne_true}
+use Rattle.std.proofs.lemmas.Bool.{false≢true, and_parts, and_from, false_from_ne_true}
 use Rattle.std.proofs.lemmas.Int.{ints}
 use Rattle.std.proofs.lemmas.List.Folds.{list_any-append}
 use Rattle.std.proofs.lemmas.Option.{same_Some, none-some}
@@ -22,7 +22,7 @@ use Rattle.prod_model.specs.Forest.{is_a}
 use Rattle.prod_model.specs.Taxonomy.{Named, declarations_of, kept_entry, entries_of, first_id, new_declarations, new_entries, attributes_of, ports_of, attributes_at, ports_at, made_attribute, made_port, words_of}
 use Rattle.prod_model.specs.Valid.{IsDeclared, inherited, has_distinct_names, has_narrowings, attribute_narrows, port_narrows, narrows_domain, same_kind}
 use Rattle.base_laws.specs.Places.{IsAt}
-use Rattle.base_laws.proofs.Tests.{list_all_at, list_any_from}
+use Rattle.base_laws.proofs.Tests.{list_all_at, list_all_from, list_any_at, list_any_from}
 use Rattle.prod_model.proofs.NameLaws.{same_text_refl}
 use Rattle.prod_model.proofs.ForestLines.{HasNoCycle, HasParent, no_cycle}
 use Rattle.prod_model.proofs.LineLaws.{along_lines, is_a_cases, is_a_trans}
@@ -41,6 +41,7 @@ IsRangeWithin (Words wide) d = Unit {0}
 pub record IsAttributeWithin (a b : AttrAt) : Type 0 where
   pub same_id : b.id ≡ a.id
   pub within : IsRangeWithin a.domain b.domain
+  pub narrows : IsTrue (narrows_domain b.domain a.domain)
 
 -- the second port is the first one, perhaps narrowed
 pub record IsPortWithin (m : Model) (p q : PortAt) : Type 0 where
@@ -61,15 +62,44 @@ range_within_trans (Range l h) (Range l' h') (Words ws) first second = absurd se
 range_within_trans (Range l h) (Words ws) e first second = absurd first
 range_within_trans (Words ws) d e first second = tt
 
+-- a domain lies within itself
+pub narrows_refl : (d : Domain) → IsTrue (narrows_domain d d)
+narrows_refl (Range low high) = grind (arith, ints)
+narrows_refl (Words words) =
+    list_all_from (λ w. list_any (same_text w) words) words (λ k w at.
+    list_any_from (same_text w) words k w at (same_text_refl w))
+
+-- and what lies within a domain that lies within another, lies within that one
+int_le_trans : (a b c : ℤ) → IsTrue (int_le a b) → IsTrue (int_le b c) → IsTrue (int_le a c)
+int_le_trans a b c first second = grind (arith, ints)
+
+pub narrows_trans : (c d e : Domain) → IsTrue (narrows_domain d c) → IsTrue (narrows_domain e d) → IsTrue (narrows_domain e c)
+narrows_trans (Range l h) (Range l' h') (Range l'' h'') first second =
+    let one = and_parts _ _ first in
+    let two = and_parts _ _ second in
+    and_from _ _ (int_le_trans l l' l'' one.0 two.0) (int_le_trans h'' h' h two.1 one.1)
+narrows_trans (Range l h) (Range l' h') (Words ws) first second = absurd (false≢true second)
+narrows_trans (Range l h) (Words ws) e first second = absurd (false≢true first)
+narrows_trans (Words ws) (Range l h) e first second = absurd (false≢true first)
+narrows_trans (Words ws) (Words ws') (Range l h) first second = absurd (false≢true second)
+narrows_trans (Words ws) (Words ws') (Words ws'') first second =
+    list_all_from (λ w. list_any (same_text w) ws) ws'' (λ k w at.
+    let found = list_any_at (same_text w) ws' (list_all_at (λ w. list_any (same_text w) ws') ws'' second k w at) in
+    let same : w ≡ found.1 = same_text_same w found.1 found.3 in
+    subst (λ v. IsTrue (list_any (same_text v) ws)) (sym same)
+    (list_all_at (λ w. list_any (same_text w) ws) ws' first found.0 found.1 found.2))
+
 -- an attribute narrows itself
 attribute_within_refl : (a : AttrAt) → IsAttributeWithin a a
-attribute_within_refl a = record { same_id = refl; within = range_within_refl a.domain }
+attribute_within_refl a =
+    record { same_id = refl; within = range_within_refl a.domain; narrows = narrows_refl a.domain }
 
 -- what narrows a narrowed attribute narrows the attribute
 attribute_within_trans : (a b c : AttrAt) → IsAttributeWithin a b → IsAttributeWithin b c → IsAttributeWithin a c
 attribute_within_trans a b c first second = record {
   same_id = second.same_id ∙ first.same_id;
   within = range_within_trans a.domain b.domain c.domain first.within second.within;
+  narrows = narrows_trans a.domain b.domain c.domain first.narrows second.narrows;
 }
 
 -- a port narrows itself
@@ -198,7 +228,7 @@ narrows_within (Words words) (Range wide_low wide_high) h = absurd cc
 narrows_within d (Words wide) h = tt
 
 -- a type has its parent's attributes, narrowed
-attributes_kept : (m : Model) → IsDeclared m → (t p : ℕ) → HasParent m.types t p → HasEach IsAttributeWithin (attributes_at m p) (attributes_at m t)
+pub attributes_kept : (m : Model) → IsDeclared m → (t p : ℕ) → HasParent m.types t p → HasEach IsAttributeWithin (attributes_at m p) (attributes_at m t)
 unfolding attributes_of
 attributes_kept m is t p above =
     let types = m.types in
@@ -211,10 +241,10 @@ attributes_kept m is t p above =
     ∙ ap (option_map (λ e. e.what)) found in
     let within : IsTrue (narrows_domain d.domain e.what.domain) =
     sym (ap (λ o. option_map_or (λ b. narrows_domain d.domain b.domain) o true) above_it) ∙ (and_parts _ _ narrows).1 in
-    record { same_id = refl; within = narrows_within d.domain e.what.domain within })
+    record { same_id = refl; within = narrows_within d.domain e.what.domain within; narrows = within })
 
 -- a type has its parent's ports, narrowed
-ports_kept : (m : Model) → IsDeclared m → (t p : ℕ) → HasParent m.types t p → HasEach (IsPortWithin m) (ports_at m p) (ports_at m t)
+pub ports_kept : (m : Model) → IsDeclared m → (t p : ℕ) → HasParent m.types t p → HasEach (IsPortWithin m) (ports_at m p) (ports_at m t)
 unfolding ports_of
 ports_kept m is t p above =
     each_kept (λ d. d.ports) (λ d. d.name) made_port (λ d p. made_port p.id d) m.types (IsPortWithin m) (port_within_refl m) (no_cycle m is.taxonomy.forest)
