@@ -1,8 +1,6 @@
 pub mod Lines
 pub mod SameNames
 pub mod Firsts
-pub mod Entries
-pub mod Places
 pub mod TypeNames
 pub mod FirstRows
 pub mod Joined

@@ -26,7 +26,7 @@ use Rattle.canonical_form.specs.steps.FirstDeclared.{with_new, first_declaration
 use Rattle.base_laws.proofs.Tests.{list_all_at, list_all_from, list_any_map}
 use Rattle.prod_model.proofs.NameLaws.{same_text_refl}
 use Rattle.prod_model.proofs.ForestLines.{no_cycle, line_stays, IsLine, line_IsLine, line_within_types}
-use Rattle.canonical_form.proofs.Places.{places_of_type}
+use Rattle.prod_model.proofs.IdLaws.{places_of_type}
 use Rattle.canonical_form.proofs.TypeNames.{attribute_names}
 use Rattle.canonical_form.proofs.LookUps.{same_item, named_at}
 use Rattle.canonical_form.proofs.ModelTexts.{all_few}

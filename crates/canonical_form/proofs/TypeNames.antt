@@ -18,8 +18,8 @@ use Rattle.prod_model.specs.Valid.{IsValid, has_distinct_names}
 use Rattle.canonical_form.specs.steps.FirstDeclared.{first_declarations}
 use Rattle.prod_model.proofs.ForestLines.{no_cycle, line_IsLine}
 use Rattle.canonical_form.proofs.Firsts.{HasDistinct, firsts_of_line}
-use Rattle.canonical_form.proofs.Entries.{names_entries_of}
-use Rattle.canonical_form.proofs.Places.{places_entries_of}
+use Rattle.prod_model.proofs.EntryLaws.{names_entries_of}
+use Rattle.prod_model.proofs.IdLaws.{places_entries_of}
 
 -- ---- no name twice
 
