@@ -1,9 +1,9 @@
 -- The argument expressions of a form: their places, and how deep they nest.
 use Rattle.std.proofs.Common.{◌≡◌, ℕ, zero, suc, ◌+◌, ◌<◌, ◌≤◌, max, ◌∙◌, sym, ap, subst, refl, List, [], ◌∷◌, length, Some, Contains, arith}
-use Rattle.std.specs.Prelude.{slice_get}
 use Rattle.std.specs.List.{fold, enumerate_from}
 use Rattle.std.proofs.lemmas.List.FromFn.{length-enumerate_from, get_or-enumerate_from}
 use Rattle.std.proofs.lemmas.Option.{slice_get_within, slice_get-get_or, get_or_from_slice_get}
+use Rattle.base_laws.specs.Places.{IsAt}
 use Rattle.prod_model.specs.declared.expr.Expr.{Expr}
 use Rattle.prod_model.specs.declared.expr.Expr.TheOpen.{Expr-F, Num, Attr, Count, CountOf, Sum, Total, Number, Add, Sub, Times, Cmp, Is, Kind, And, Or, Not, If, All, Any}
 use Rattle.prod_model.specs.declared.expr.Expr.TheViews.{out-Expr, roll-Expr, roll-out-Expr}
@@ -36,26 +36,26 @@ arguments_list (All p e) = refl
 arguments_list (Any p e) = refl
 
 enumerated_index : {X : Type 0} (n : ℕ) (xs : List X) (k : ℕ) (x : X) → Contains (enumerate_from n xs) (k, x)
-    → (i : ℕ) × (slice_get xs i ≡ Some x) × (k ≡ n + i)
+    → (i : ℕ) × (IsAt xs i x) × (k ≡ n + i)
 enumerated_index n xs k x among =
     let i = among.0 in
     let within : i < length xs = omega (arith, length-enumerate_from n xs, among.1) in
     let read = sym (get_or-enumerate_from n xs i (k, x) within) ∙ among.2 in
     (i, slice_get-get_or xs i x within ∙ ap (λ p. Some p.1) read, sym (ap (λ p. p.0) read))
 
-index_enumerated : {X : Type 0} (n : ℕ) (xs : List X) (i : ℕ) (x : X) → slice_get xs i ≡ Some x → Contains (enumerate_from n xs) (n + i, x)
+index_enumerated : {X : Type 0} (n : ℕ) (xs : List X) (i : ℕ) (x : X) → IsAt xs i x → Contains (enumerate_from n xs) (n + i, x)
 index_enumerated n xs i x found =
     let within : i < length xs = slice_get_within xs i x found in
     (i, omega (arith, length-enumerate_from n xs), get_or-enumerate_from n xs i (n + i, x) within ∙ ap (λ y. (n + i, y)) (get_or_from_slice_get xs i x x found))
 
 -- an argument of a form has its place
 pub argument_index : (f : Expr-F Expr) (k : ℕ) (arg : Expr) → Contains (arguments f) (k, arg)
-    → (i : ℕ) × (slice_get (argument_list f) i ≡ Some arg) × (k ≡ first_place f + i)
+    → (i : ℕ) × (IsAt (argument_list f) i arg) × (k ≡ first_place f + i)
 argument_index f k arg among =
     let Has : List (ℕ × Expr) → Type 0 = λ xs. Contains xs (k, arg) in
     enumerated_index (first_place f) (argument_list f) k arg (subst Has (arguments_list f) among)
 
-pub argument_contained : (f : Expr-F Expr) (i : ℕ) (arg : Expr) → slice_get (argument_list f) i ≡ Some arg → Contains (arguments f) (first_place f + i, arg)
+pub argument_contained : (f : Expr-F Expr) (i : ℕ) (arg : Expr) → IsAt (argument_list f) i arg → Contains (arguments f) (first_place f + i, arg)
 argument_contained f i arg found =
     let Has : List (ℕ × Expr) → Type 0 = λ xs. Contains xs (first_place f + i, arg) in
     subst Has (sym (arguments_list f)) (index_enumerated (first_place f) (argument_list f) i arg found)
@@ -100,21 +100,21 @@ deepest_from : (a : ℕ) (es : List Expr) → a ≤ deepest a es
 deepest_from a [] = omega arith
 deepest_from a (e ∷ es) = omega (arith, deepest_from (max a (nesting e)) es)
 
-deepest_reaches : (a : ℕ) (es : List Expr) (i : ℕ) (arg : Expr) → slice_get es i ≡ Some arg → nesting arg ≤ deepest a es
+deepest_reaches : (a : ℕ) (es : List Expr) (i : ℕ) (arg : Expr) → IsAt es i arg → nesting arg ≤ deepest a es
 deepest_reaches a [] i arg found = cc
 deepest_reaches a (e ∷ es) zero arg found = let same : e ≡ arg = cc in omega (arith, deepest_from (max a (nesting e)) es, ap nesting same)
 deepest_reaches a (e ∷ es) (suc i) arg found = deepest_reaches (max a (nesting e)) es i arg found
 
-deepest_within : (n a : ℕ) (es : List Expr) → a ≤ n → ((i : ℕ) (arg : Expr) → slice_get es i ≡ Some arg → nesting arg ≤ n) → deepest a es ≤ n
+deepest_within : (n a : ℕ) (es : List Expr) → a ≤ n → ((i : ℕ) (arg : Expr) → IsAt es i arg → nesting arg ≤ n) → deepest a es ≤ n
 deepest_within n a [] within each = within
 deepest_within n a (e ∷ es) within each = deepest_within n (max a (nesting e)) es (omega (arith, each 0 e refl)) (λ i arg found. each (suc i) arg found)
 
 -- an argument nests less deep
-pub nesting_argument : (e : Expr) (i : ℕ) (arg : Expr) → slice_get (argument_list (out-Expr e)) i ≡ Some arg → nesting arg < nesting e
+pub nesting_argument : (e : Expr) (i : ℕ) (arg : Expr) → IsAt (argument_list (out-Expr e)) i arg → nesting arg < nesting e
 nesting_argument e i arg found = omega (arith, nesting_form e, deepest_reaches 0 (argument_list (out-Expr e)) i arg found)
 
 -- what has no deep argument isn't deep
-pub nesting_within : (n : ℕ) (e : Expr) → ((i : ℕ) (arg : Expr) → slice_get (argument_list (out-Expr e)) i ≡ Some arg → nesting arg ≤ n) → nesting e ≤ suc n
+pub nesting_within : (n : ℕ) (e : Expr) → ((i : ℕ) (arg : Expr) → IsAt (argument_list (out-Expr e)) i arg → nesting arg ≤ n) → nesting e ≤ suc n
 nesting_within n e each = omega (arith, nesting_form e, deepest_within n 0 (argument_list (out-Expr e)) (omega arith) each)
 
 pub nesting_some : (e : Expr) → 0 < nesting e

@@ -1,10 +1,11 @@
 -- A form whose names are known and whose arguments are right lacks bounds exactly where it is wide.
-use Rattle.std.proofs.Common.{◌≡◌, ℕ, zero, suc, ◌∙◌, sym, ap, refl, Bool, true, false, not, ◌||◌, ◌&&◌, ℤ, ◌+ℤ◌, pos, List, [], ◌∷◌, ◌++◌, map, length, Option, Some, None, arith}
+use Rattle.std.proofs.Common.{◌≡◌, ℕ, suc, ◌∙◌, sym, ap, refl, Bool, true, false, not, ◌||◌, ◌&&◌, ℤ, pos, List, [], ◌∷◌, ◌++◌, map, length, Option, Some, None}
 use Rattle.std.specs.Prelude.{slice_get, is_some, nat_lt, if◌then◌else◌}
 use Rattle.std.specs.Option.{option_map_or, option_and_then, option_map}
+use Rattle.std.specs.List.{list_all}
 use Rattle.std.proofs.lemmas.Bool.{false≢true}
-use Rattle.std.proofs.lemmas.Int.{ints}
 use Rattle.std.proofs.lemmas.Option.{slice_get-map}
+use Rattle.base_laws.specs.Places.{IsAt}
 use Rattle.prod_model.specs.declared.model.Model.{Model}
 use Rattle.prod_model.specs.declared.model.AttrAt.{AttrAt}
 use Rattle.prod_model.specs.declared.model.PortAt.{PortAt}
@@ -16,14 +17,16 @@ use Rattle.prod_model.specs.declared.expr.Expr.TheOpen.{Expr-F, Num, Attr, Count
 use Rattle.prod_model.specs.Limits.{is_within, farthest_bound}
 use Rattle.prod_model.specs.Forest.{is_type}
 use Rattle.prod_model.specs.Taxonomy.{attribute_of, port_of, first_words}
-use Rattle.prod_model.specs.ExprBounds.{bounds_at, bounded, sum_of_some, difference, multiple, comparison, truth_of, of_range, is_word_of, has_arguments}
+use Rattle.prod_model.specs.ExprBounds.{bounds_at, bounded, is_number, low_of, high_of, sum_of, sum_of_some, difference, multiple, comparison, truth_of, of_range, is_word_of, has_arguments}
 use Rattle.prod_model.specs.steps.ExprBounds.{sum_onto}
+use Rattle.prod_model.proofs.ExprBoundsLaws.{sum_of_all_added}
+use Rattle.base_laws.proofs.Tests.{list_all_at, list_all_from}
 use Rattle.expr_bounds.specs.steps.Arguments.{argument_list, has_right_count}
 use Rattle.expr_bounds.specs.Parts.{type_of_arguments}
 use Rattle.expr_bounds.specs.steps.FormBounds.{form_bounds}
 use Rattle.expr_bounds.specs.Faults.{place_unless, has_range, has_words, is_known_word, unknown_names, wrong_attributes, needs_truths}
-use Rattle.expr_bounds.specs.Ends.{ends_within, ends_of_range, ends_of_some, ends_of_both, ends_of_all, ends_of_difference, ends_of_multiple, ends_of, is_beyond, is_wide}
-use Rattle.expr_bounds.proofs.FormSound.{kind_of, HasKind, some_kind, some_mapped, one_argument, two_arguments, list_arguments}
+use Rattle.expr_bounds.specs.Ends.{ends_within, ends_of_range, ends_of_some, ends_of_all, ends_of_difference, ends_of_multiple, ends_of, is_beyond, is_wide}
+use Rattle.expr_bounds.proofs.FormSound.{kind_of, HasKind, some_kind, some_mapped, if_holds, one_argument, two_arguments, list_arguments}
 
 -- ---- within the limits, or beyond them
 
@@ -69,31 +72,12 @@ links_limited : (m : Model) (a : ℕ) (o : Option PortAt)
 links_limited m a None = refl
 links_limited m a (Some q) = some_limited q.low q.high (attribute_of m q.target a)
 
-abbrev limited_from : ℤ → ℤ → Option (ℤ × ℤ) → Option Bounds
-limited_from low high o = option_and_then (λ s. bounded (low +ℤ s.0) (high +ℤ s.1)) o
-
-limited_more : (low high : ℤ) (e : ℤ × ℤ) (o : Option (ℤ × ℤ)) → limited_from (low +ℤ e.0) (high +ℤ e.1) o ≡ limited_from low high (option_map (ends_of_both e) o)
-limited_more low high e None = refl
-limited_more low high e (Some s) =
-    let a : (low +ℤ e.0) +ℤ s.0 ≡ low +ℤ (e.0 +ℤ s.0) = omega (arith, ints) in
-    let b : (high +ℤ e.1) +ℤ s.1 ≡ high +ℤ (e.1 +ℤ s.1) = omega (arith, ints) in rw (a, b) refl
-
-sums_limited : (low high : ℤ) (xs : List (Option Bounds)) → sum_onto low high xs ≡ limited_from low high (ends_of_all xs)
-sums_limited low high [] =
-    let a : low +ℤ pos 0 ≡ low = omega (arith, ints) in
-    let b : high +ℤ pos 0 ≡ high = omega (arith, ints) in rw (a, b) refl
-sums_limited low high (None ∷ xs) = refl
-sums_limited low high (Some truth ∷ xs) = refl
-sums_limited low high (Some (number a b) ∷ xs) = sums_limited (low +ℤ a) (high +ℤ b) xs ∙ limited_more low high (a, b) (ends_of_all xs)
-
-from_zero : (o : Option (ℤ × ℤ)) → limited_from (pos 0) (pos 0) o ≡ limited o
-from_zero None = refl
-from_zero (Some s) =
-    let a : pos 0 +ℤ s.0 ≡ s.0 = omega (arith, ints) in
-    let b : pos 0 +ℤ s.1 ≡ s.1 = omega (arith, ints) in rw (a, b) refl
+if_limited : (b : Bool) (low high : ℤ) → (if b then bounded low high else None) ≡ limited (if b then Some (low, high) else None)
+if_limited true low high = refl
+if_limited false low high = refl
 
 all_limited : (xs : List (Option Bounds)) → sum_onto (pos 0) (pos 0) xs ≡ limited (ends_of_all xs)
-all_limited xs = sums_limited (pos 0) (pos 0) xs ∙ from_zero (ends_of_all xs)
+all_limited xs = sym (sum_of_all_added xs) ∙ if_limited (list_all is_number xs) (sum_of (map low_of xs)) (sum_of (map high_of xs))
 
 difference_limited : (a b : Option Bounds) → difference a b ≡ limited (option_and_then (λ d. option_map (ends_of_difference d) (ends_within b)) (ends_within a))
 difference_limited None b = refl
@@ -135,15 +119,15 @@ some_both : {A B C : Type 0} (f : A → B → C) (o : Option A) (r : Option B) �
 some_both f None r some = absurd (false≢true some)
 some_both f (Some a) r some = (refl, some_mapped (f a) r some)
 
-numbers_within : (xs : List (Option Bounds)) → is_some (ends_of_all xs) ≡ true → (i : ℕ) (x : Option Bounds) → slice_get xs i ≡ Some x → kind_of x ≡ Some false
-numbers_within [] some i x found = cc
-numbers_within (y ∷ ys) some zero x found =
-    let both = some_both ends_of_both (ends_within y) (ends_of_all ys) some in
-    let same : y ≡ x = cc in ap kind_of (sym same) ∙ number_within y both.0
-numbers_within (y ∷ ys) some (suc i) x found =
-    let both = some_both ends_of_both (ends_within y) (ends_of_all ys) some in numbers_within ys both.1 i x found
+number_kind : (o : Option Bounds) → is_number o ≡ true → kind_of o ≡ Some false
+number_kind None is = absurd (false≢true is)
+number_kind (Some truth) is = absurd (false≢true is)
+number_kind (Some (number a b)) is = refl
 
-ends_numbers : (m : Model) (f : Expr-F Expr) (t : ℕ) → is_some (ends_of m f t) ≡ true → (i : ℕ) (arg : Expr) → slice_get (argument_list f) i ≡ Some arg
+numbers_within : (xs : List (Option Bounds)) → is_some (ends_of_all xs) ≡ true → (i : ℕ) (x : Option Bounds) → IsAt xs i x → kind_of x ≡ Some false
+numbers_within xs some i x found = number_kind x (list_all_at is_number xs (if_holds (list_all is_number xs) _ some).0 i x found)
+
+ends_numbers : (m : Model) (f : Expr-F Expr) (t : ℕ) → is_some (ends_of m f t) ≡ true → (i : ℕ) (arg : Expr) → IsAt (argument_list f) i arg
     → HasKind m arg (type_of_arguments m f (Some t)) false
 ends_numbers m (Num n) t some i arg found = cc
 ends_numbers m (Attr a) t some i arg found = cc
@@ -162,7 +146,7 @@ some_wide None wide = wide
 some_wide (Some e) wide = refl
 
 -- the arguments of a form that is wide have bounds
-pub wide_arguments : (m : Model) (f : Expr-F Expr) (t : ℕ) → is_wide m f t ≡ true → (i : ℕ) (arg : Expr) → slice_get (argument_list f) i ≡ Some arg
+pub wide_arguments : (m : Model) (f : Expr-F Expr) (t : ℕ) → is_wide m f t ≡ true → (i : ℕ) (arg : Expr) → IsAt (argument_list f) i arg
     → option_map_or (λ u. is_some (bounds_at m arg u)) (type_of_arguments m f (Some t)) false ≡ true
 wide_arguments m f t wide i arg found =
     let has = ends_numbers m f t (some_wide (ends_of m f t) wide) i arg found in
@@ -224,16 +208,20 @@ both_some : {A B C : Type 0} (f : A → B → C) (o : Option A) (r : Option B) �
 both_some f None r here there = here
 both_some f (Some a) r here there = map_some (f a) r there
 
-all_some : (xs : List (Option Bounds)) → ((i : ℕ) (x : Option Bounds) → slice_get xs i ≡ Some x → kind_of x ≡ Some false) → is_some (ends_of_all xs) ≡ true
-all_some [] each = refl
-all_some (x ∷ xs) each = both_some ends_of_both (ends_within x) (ends_of_all xs) (ends_some x (each 0 x refl)) (all_some xs (λ i y found. each (suc i) y found))
+is_number_of : (o : Option Bounds) → kind_of o ≡ Some false → is_number o ≡ true
+is_number_of None is = cc
+is_number_of (Some truth) is = cc
+is_number_of (Some (number a b)) is = refl
+
+all_some : (xs : List (Option Bounds)) → ((i : ℕ) (x : Option Bounds) → IsAt xs i x → kind_of x ≡ Some false) → is_some (ends_of_all xs) ≡ true
+all_some xs each = if_some (list_all is_number xs) _ (list_all_from is_number xs (λ i x found. is_number_of x (each i x found))) refl
 
 truth_there : (o : Option Bounds) → kind_of o ≡ Some true → o ≡ Some truth
 truth_there None is = cc
 truth_there (Some truth) is = refl
 truth_there (Some (number a b)) is = cc
 
-truths_some : (xs : List (Option Bounds)) → ((i : ℕ) (x : Option Bounds) → slice_get xs i ≡ Some x → kind_of x ≡ Some true) → is_some (truth_of xs) ≡ true
+truths_some : (xs : List (Option Bounds)) → ((i : ℕ) (x : Option Bounds) → IsAt xs i x → kind_of x ≡ Some true) → is_some (truth_of xs) ≡ true
 truths_some [] each = refl
 truths_some (x ∷ xs) each =
     let here = truth_there x (each 0 x refl) in rw here (truths_some xs (λ i y found. each (suc i) y found))
@@ -256,10 +244,10 @@ mapped_kind m t needed (Some e) x each found =
     let same : bounds_at m e t ≡ x = ap (λ o. option_map_or (λ (y : Option Bounds). y) o None) found in ap kind_of (sym same) ∙ each e refl
 
 abbrev HasKinds : Model → Expr-F Expr → ℕ → Type 0
-HasKinds m f t = (i : ℕ) (arg : Expr) → slice_get (argument_list f) i ≡ Some arg → HasKind m arg (type_of_arguments m f (Some t)) (needs_truths f)
+HasKinds m f t = (i : ℕ) (arg : Expr) → IsAt (argument_list f) i arg → HasKind m arg (type_of_arguments m f (Some t)) (needs_truths f)
 
-listed_kinds : (m : Model) (t : ℕ) (needed : Bool) (args : List Expr) → ((i : ℕ) (arg : Expr) → slice_get args i ≡ Some arg → HasKind m arg (Some t) needed)
-    → (i : ℕ) (x : Option Bounds) → slice_get (map (λ e. bounds_at m e t) args) i ≡ Some x → kind_of x ≡ Some needed
+listed_kinds : (m : Model) (t : ℕ) (needed : Bool) (args : List Expr) → ((i : ℕ) (arg : Expr) → IsAt args i arg → HasKind m arg (Some t) needed)
+    → (i : ℕ) (x : Option Bounds) → IsAt (map (λ e. bounds_at m e t) args) i x → kind_of x ≡ Some needed
 listed_kinds m t needed args each i x found =
     mapped_kind m t needed (slice_get args i) x (λ arg at. kind_at m arg t needed (each i arg at)) (sym (slice_get-map (λ e. bounds_at m e t) args i) ∙ found)
 

@@ -1,10 +1,11 @@
 -- The faults of an expression are those that the searches look for.
 use Rattle.std.proofs.Common.{◌≡◌, ℕ, zero, suc, ◌+◌, ◌∙◌, sym, ap, subst, refl, Bool, true, false, not, List, [], ◌∷◌, ◌++◌, length, Option, Some, None, Contains, append_assoc, append-nil, inl, inr, arith}
-use Rattle.std.specs.Prelude.{slice_get, is_some, is_none, IsTrue}
+use Rattle.std.specs.Prelude.{is_some, is_none, IsTrue}
 use Rattle.std.specs.Option.{option_map_or, option_and_then}
 use Rattle.std.proofs.lemmas.Bool.{false≢true}
 use Rattle.std.proofs.lemmas.Bool.Decides.{nat_tests}
 use Rattle.std.proofs.lemmas.List.Elements.{Contains-append_left, Contains-append_right, Contains-append_cases}
+use Rattle.base_laws.specs.Places.{IsAt}
 use Rattle.expr_bounds.proofs.Elements.{none_contained, contains_places, places_contained, whole_contained, contains_whole, contains_flat, flat_contained, unless_contained, contains_unless}
 use Rattle.prod_model.specs.declared.model.Model.{Model}
 use Rattle.prod_model.specs.declared.expr.Expr.{Expr}
@@ -39,7 +40,7 @@ not_same : (b c : Bool) → same_truth b c ≡ false → not (same_truth b c) �
 not_same b c differ = ap not differ
 
 all_of : (m : Model) (part : Expr) (of : ℕ)
-    → ((i : ℕ) (arg : Expr) → slice_get (argument_list (out-Expr part)) i ≡ Some arg → option_map_or (λ u. is_some (bounds_at m arg u)) (type_of_arguments m (out-Expr part) (Some of)) false ≡ true)
+    → ((i : ℕ) (arg : Expr) → IsAt (argument_list (out-Expr part)) i arg → option_map_or (λ u. is_some (bounds_at m arg u)) (type_of_arguments m (out-Expr part) (Some of)) false ≡ true)
     → has_bounded_arguments m part of ≡ true
 all_of m part of each =
     list_all_from (λ arg. option_map_or (λ u. is_some (bounds_at m arg u)) (type_of_arguments m (out-Expr part) (Some of)) false) (argument_list (out-Expr part)) each

@@ -1,10 +1,10 @@
 -- The arguments of a form of the language: there are few, and each is a form of the language.
-use Rattle.std.proofs.Common.{◌≡◌, ℕ, ◌≤◌, ◌∙◌, sym, ap, refl, Bool, true, ◌&&◌, List, [], ◌∷◌, map, length, Some, IsTrue, arith}
-use Rattle.std.specs.Prelude.{slice_get}
+use Rattle.std.proofs.Common.{◌≡◌, ℕ, ◌≤◌, ◌∙◌, sym, ap, refl, Bool, true, ◌&&◌, List, [], ◌∷◌, map, length, IsTrue, arith}
 use Rattle.std.specs.List.{list_all}
 use Rattle.std.proofs.lemmas.List.{length-map}
 use Rattle.std.proofs.lemmas.List.Folds.{list_all-map}
 use Rattle.std.proofs.lemmas.Bool.Decides.{nat_tests}
+use Rattle.base_laws.specs.Places.{IsAt}
 use Rattle.prod_model.specs.declared.expr.Expr.{Expr}
 use Rattle.prod_model.specs.declared.expr.Expr.TheOpen.{Expr-F, Add, Sub, Times, Cmp, And, Or, Not, If, All, Any}
 use Rattle.prod_model.specs.declared.expr.Expr.TheViews.{out-Expr, roll-Expr, roll-out-Expr}
@@ -53,5 +53,5 @@ formed_arguments e formed = formed_roll (out-Expr e) (ap is_form (roll-out-Expr 
 pub few_arguments : (e : Expr) → IsTrue (is_form e) → length (argument_list (out-Expr e)) ≤ 64
 few_arguments e formed = (formed_arguments e formed).0
 
-pub formed_argument : (e : Expr) (i : ℕ) (arg : Expr) → IsTrue (is_form e) → slice_get (argument_list (out-Expr e)) i ≡ Some arg → IsTrue (is_form arg)
+pub formed_argument : (e : Expr) (i : ℕ) (arg : Expr) → IsTrue (is_form e) → IsAt (argument_list (out-Expr e)) i arg → IsTrue (is_form arg)
 formed_argument e i arg formed found = list_all_at is_form (argument_list (out-Expr e)) (formed_arguments e formed).1 i arg found

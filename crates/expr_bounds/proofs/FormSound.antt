@@ -1,12 +1,13 @@
 -- A form that has bounds knows its names, and its arguments have bounds and are of the kinds that it needs.
 use Rattle.std.proofs.Common.{◌≡◌, ℕ, zero, suc, ◌<◌, ◌∙◌, sym, ap, subst, refl, Bool, true, false, not, ◌||◌, ◌==◌, ℤ, ◌+ℤ◌, ◌-ℤ◌, ◌*ℤ◌, pos, List, [], ◌∷◌, ◌++◌, map, length, Option, Some, None, inl, inr, arith}
-use Rattle.std.specs.Prelude.{slice_get, is_some, nat_lt, if◌then◌else◌}
+use Rattle.std.specs.Prelude.{is_some, nat_lt, if◌then◌else◌}
 use Rattle.std.specs.Option.{option_map_or, option_and_then, option_map}
 use Rattle.std.specs.Int.{int_min, int_max}
 use Rattle.std.specs.List.{find}
 use Rattle.std.proofs.lemmas.Bool.{false≢true}
 use Rattle.std.proofs.lemmas.Bool.Decides.{nat_tests}
 use Rattle.std.proofs.lemmas.Option.{slice_get-map, slice_get_cases}
+use Rattle.base_laws.specs.Places.{IsAt}
 use Rattle.prod_model.specs.declared.model.Model.{Model}
 use Rattle.prod_model.specs.declared.model.AttrAt.{AttrAt}
 use Rattle.prod_model.specs.declared.model.PortAt.{PortAt}
@@ -48,7 +49,7 @@ HasKind m arg at needed = (u : ℕ) × (at ≡ Some u) × (kind_of (bounds_at m 
 pub record IsSound (m : Model) (f : Expr-F Expr) (t : ℕ) : Type 0 where
   pub names : unknown_names m f t ≡ []
   pub attributes : wrong_attributes m f t ≡ []
-  pub arguments : (i : ℕ) (arg : Expr) → slice_get (argument_list f) i ≡ Some arg → HasKind m arg (type_of_arguments m f (Some t)) (needs_truths f)
+  pub arguments : (i : ℕ) (arg : Expr) → IsAt (argument_list f) i arg → HasKind m arg (type_of_arguments m f (Some t)) (needs_truths f)
   pub kind : kind_of (form_bounds m f t) ≡ Some (is_truth_form f)
 
 -- ---- numbers and truths
@@ -92,19 +93,19 @@ comparison_kinds (Some truth) b is = absurd (false≢true is)
 comparison_kinds (Some (number x y)) None is = absurd (false≢true is)
 comparison_kinds (Some (number x y)) (Some truth) is = absurd (false≢true is)
 
-first_or_rest : (x : Option Bounds) (xs : List (Option Bounds)) (b : Bool) → kind_of x ≡ Some b → ((i : ℕ) (y : Option Bounds) → slice_get xs i ≡ Some y → kind_of y ≡ Some b)
-    → (i : ℕ) (y : Option Bounds) → slice_get (x ∷ xs) i ≡ Some y → kind_of y ≡ Some b
+first_or_rest : (x : Option Bounds) (xs : List (Option Bounds)) (b : Bool) → kind_of x ≡ Some b → ((i : ℕ) (y : Option Bounds) → IsAt xs i y → kind_of y ≡ Some b)
+    → (i : ℕ) (y : Option Bounds) → IsAt (x ∷ xs) i y → kind_of y ≡ Some b
 first_or_rest x xs b here rest zero y found = let same : x ≡ y = cc in ap kind_of (sym same) ∙ here
 first_or_rest x xs b here rest (suc i) y found = rest i y found
 
-truths_kinds : (xs : List (Option Bounds)) → IsBounded (truth_of xs) → (kind_of (truth_of xs) ≡ Some true) × ((i : ℕ) (x : Option Bounds) → slice_get xs i ≡ Some x → kind_of x ≡ Some true)
+truths_kinds : (xs : List (Option Bounds)) → IsBounded (truth_of xs) → (kind_of (truth_of xs) ≡ Some true) × ((i : ℕ) (x : Option Bounds) → IsAt xs i x → kind_of x ≡ Some true)
 truths_kinds [] is = (refl, λ i x found. cc)
 truths_kinds (None ∷ xs) is = absurd (false≢true is)
 truths_kinds (Some (number low high) ∷ xs) is = absurd (false≢true is)
 truths_kinds (Some truth ∷ xs) is = let rest = truths_kinds xs is in (rest.0, first_or_rest (Some truth) xs true refl rest.1)
 
 sums_kinds : (low high : ℤ) (xs : List (Option Bounds)) → IsBounded (sum_onto low high xs)
-    → (kind_of (sum_onto low high xs) ≡ Some false) × ((i : ℕ) (x : Option Bounds) → slice_get xs i ≡ Some x → kind_of x ≡ Some false)
+    → (kind_of (sum_onto low high xs) ≡ Some false) × ((i : ℕ) (x : Option Bounds) → IsAt xs i x → kind_of x ≡ Some false)
 sums_kinds low high [] is = (number_kind low high is, λ i x found. cc)
 sums_kinds low high (None ∷ xs) is = absurd (false≢true is)
 sums_kinds low high (Some truth ∷ xs) is = absurd (false≢true is)
@@ -128,7 +129,7 @@ sound_word m w (Some a) is = elim a.domain as (λ d. elim d [ Range low high ↦
       | Words words ↦ λ b. (refl, no_place (nat_lt w (length (first_words m a.id))) 2 b, refl)
     ] is
 
-if_holds : {A : Type 0} (b : Bool) (o : Option A) → is_some (if b then o else None) ≡ true → (b ≡ true) × (is_some o ≡ true)
+pub if_holds : {A : Type 0} (b : Bool) (o : Option A) → is_some (if b then o else None) ≡ true → (b ≡ true) × (is_some o ≡ true)
 if_holds true o is = (refl, is)
 if_holds false o is = absurd (false≢true is)
 
@@ -140,21 +141,21 @@ count_kind : (o : Option PortAt) (f : PortAt → Bounds) → ((q : PortAt) → k
 count_kind None f each is = absurd (false≢true is)
 count_kind (Some q) f each is = each q
 
-no_arguments : (m : Model) (at : Option ℕ) (needed : Bool) (i : ℕ) (arg : Expr) → slice_get [] i ≡ Some arg → HasKind m arg at needed
+no_arguments : (m : Model) (at : Option ℕ) (needed : Bool) (i : ℕ) (arg : Expr) → IsAt [] i arg → HasKind m arg at needed
 no_arguments m at needed i arg found = cc
 
 pub one_argument : (m : Model) (e : Expr) (at : Option ℕ) (needed : Bool) → HasKind m e at needed
-    → (i : ℕ) (arg : Expr) → slice_get (e ∷ []) i ≡ Some arg → HasKind m arg at needed
+    → (i : ℕ) (arg : Expr) → IsAt (e ∷ []) i arg → HasKind m arg at needed
 one_argument m e at needed here zero arg found = let Has : Expr → Type 0 = λ x. HasKind m x at needed in let same : e ≡ arg = cc in subst Has same here
 one_argument m e at needed here (suc i) arg found = cc
 
 pub two_arguments : (m : Model) (e f : Expr) (at : Option ℕ) (needed : Bool) → HasKind m e at needed → HasKind m f at needed
-    → (i : ℕ) (arg : Expr) → slice_get (e ∷ f ∷ []) i ≡ Some arg → HasKind m arg at needed
+    → (i : ℕ) (arg : Expr) → IsAt (e ∷ f ∷ []) i arg → HasKind m arg at needed
 two_arguments m e f at needed here there zero arg found = let Has : Expr → Type 0 = λ x. HasKind m x at needed in let same : e ≡ arg = cc in subst Has same here
 two_arguments m e f at needed here there (suc i) arg found = one_argument m f at needed there i arg found
 
-pub list_arguments : (m : Model) (t : ℕ) (es : List Expr) (needed : Bool) → ((i : ℕ) (x : Option Bounds) → slice_get (map (λ e. bounds_at m e t) es) i ≡ Some x → kind_of x ≡ Some needed)
-    → (i : ℕ) (arg : Expr) → slice_get es i ≡ Some arg → HasKind m arg (Some t) needed
+pub list_arguments : (m : Model) (t : ℕ) (es : List Expr) (needed : Bool) → ((i : ℕ) (x : Option Bounds) → IsAt (map (λ e. bounds_at m e t) es) i x → kind_of x ≡ Some needed)
+    → (i : ℕ) (arg : Expr) → IsAt es i arg → HasKind m arg (Some t) needed
 list_arguments m t es needed each i arg found =
     (t, refl, each i (bounds_at m arg t) (slice_get-map (λ e. bounds_at m e t) es i ∙ ap (option_map (λ e. bounds_at m e t)) found))
 

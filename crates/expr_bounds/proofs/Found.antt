@@ -3,6 +3,7 @@ use Rattle.std.proofs.Common.{◌≡◌, ℕ, ◌+◌, ◌<◌, ◌∙◌, sym, 
 use Rattle.std.specs.Prelude.{slice_get}
 use Rattle.std.proofs.lemmas.Bool.{cases_order}
 use Rattle.std.proofs.lemmas.Option.{slice_get_within}
+use Rattle.base_laws.specs.Places.{IsAt}
 use Rattle.prod_model.specs.declared.model.Model.{Model}
 use Rattle.prod_model.specs.declared.expr.Expr.{Expr}
 use Rattle.prod_model.specs.declared.expr.Expr.TheViews.{out-Expr}
@@ -23,26 +24,26 @@ none_first (y ∷ ys) x none among = cc
 module _ (m : Model) (fault_kind : FaultKind) (e : Expr) (s : Standing) where
   -- there is no fault in the arguments before this one
   abbrev pub NoneBefore : ℕ → Type 0
-  NoneBefore n = (i : ℕ) (arg : Expr) → i < n → slice_get (argument_list (out-Expr e)) i ≡ Some arg → (path : List ℕ) → ¬ HasFaultAt m fault_kind arg (standing_below m e s) path
+  NoneBefore n = (i : ℕ) (arg : Expr) → i < n → IsAt (argument_list (out-Expr e)) i arg → (path : List ℕ) → ¬ HasFaultAt m fault_kind arg (standing_below m e s) path
 
   pub finds_none : slice_get (own_faults m fault_kind e s) 0 ≡ None → NoneBefore (length (argument_list (out-Expr e))) → (path : List ℕ) → ¬ HasFaultAt m fault_kind e s path
   finds_none none before path (own among) = none_first (own_faults m fault_kind e s) path none among
   finds_none none before path (inner i arg found {path = rest} has) =
       before i arg (slice_get_within (argument_list (out-Expr e)) i arg found) found rest has
 
-  own_first : (path : List ℕ) → slice_get (own_faults m fault_kind e s) 0 ≡ Some path → (q : List ℕ) → HasFaultAt m fault_kind e s q → ¬ IsPathBefore q path
+  own_first : (path : List ℕ) → IsAt (own_faults m fault_kind e s) 0 path → (q : List ℕ) → HasFaultAt m fault_kind e s q → ¬ IsPathBefore q path
   own_first path first q (own among) = own_ascend m fault_kind e s path q first among
   own_first path first q (inner i arg found {path = rest} has) =
       own_before_inner m fault_kind e s i arg rest path found (contained_at (own_faults m fault_kind e s) 0 path first)
 
-  pub finds_own : (path : List ℕ) → slice_get (own_faults m fault_kind e s) 0 ≡ Some path → IsFirst (HasFaultAt m fault_kind e s) IsPathBefore path
+  pub finds_own : (path : List ℕ) → IsAt (own_faults m fault_kind e s) 0 path → IsFirst (HasFaultAt m fault_kind e s) IsPathBefore path
   finds_own path first = record {
     is = own (contained_at (own_faults m fault_kind e s) 0 path first);
     none_before = own_first path first;
   }
 
-  module _ (n : ℕ) (arg : Expr) (found : slice_get (argument_list (out-Expr e)) n ≡ Some arg) (before : NoneBefore n) where
-    same_argument : (i : ℕ) (other : Expr) → i ≡ n → slice_get (argument_list (out-Expr e)) i ≡ Some other → other ≡ arg
+  module _ (n : ℕ) (arg : Expr) (found : IsAt (argument_list (out-Expr e)) n arg) (before : NoneBefore n) where
+    same_argument : (i : ℕ) (other : Expr) → i ≡ n → IsAt (argument_list (out-Expr e)) i other → other ≡ arg
     same_argument i other is at = let same : Some other ≡ Some arg = sym at ∙ ap (slice_get (argument_list (out-Expr e))) is ∙ found in cc
 
     pub none_next : ((path : List ℕ) → ¬ HasFaultAt m fault_kind arg (standing_below m e s) path) → NoneBefore (n + 1)

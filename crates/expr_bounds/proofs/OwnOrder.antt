@@ -1,12 +1,13 @@
 -- The own faults of a part ascend, and come before those of its arguments.
 use Rattle.std.proofs.Common.{◌≡◌, ℕ, ◌+◌, ◌≤◌, ◌∙◌, sym, ap, refl, Bool, true, false, not, List, [], ◌∷◌, ◌++◌, Option, Some, None, IsTrue, Contains, arith}
-use Rattle.std.specs.Prelude.{slice_get, nat_le, is_some, if◌then◌else◌}
+use Rattle.std.specs.Prelude.{nat_le, is_some, if◌then◌else◌}
 use Rattle.std.specs.Option.{option_map_or}
 use Rattle.std.specs.List.{list_all}
 use Rattle.std.specs.Ordering.{nat_cmp, is_lt}
 use Rattle.std.specs.Cmp.Lexicographic.{slice_cmp}
 use Rattle.std.proofs.lemmas.Bool.{false≢true}
 use Rattle.std.proofs.lemmas.Bool.Decides.{nat_tests}
+use Rattle.base_laws.specs.Places.{IsAt}
 use Rattle.prod_model.specs.declared.model.Model.{Model}
 use Rattle.prod_model.specs.declared.expr.Expr.{Expr}
 use Rattle.prod_model.specs.declared.expr.Expr.TheOpen.{Expr-F, Num, Attr, Count, CountOf, Sum, Total, Number, Add, Sub, Times, Cmp, Is, Kind, And, Or, Not, If, All, Any}
@@ -42,7 +43,7 @@ not_both : (b : Bool) → not b ≡ true → ¬ IsTrue b
 not_both true fails holds = false≢true fails
 not_both false fails holds = false≢true holds
 
-first_least : (ps : List (List ℕ)) (p q : List ℕ) → first_is_least ps ≡ true → slice_get ps 0 ≡ Some p → Contains ps q → ¬ IsPathBefore q p
+first_least : (ps : List (List ℕ)) (p q : List ℕ) → first_is_least ps ≡ true → IsAt ps 0 p → Contains ps q → ¬ IsPathBefore q p
 first_least [] p q least first among = absurd (omega (arith, among.1))
 first_least (r ∷ ps) p q least first among =
     let same : r ≡ p = cc in
@@ -125,7 +126,7 @@ least_own_at m WrongKind e s (Some t) is = rw is (least_wrong m (out-Expr e) t (
 least_own_at m Wide e s at is = least_whole (option_map_or (is_innermost_unbounded m e) s.at false)
 
 -- none of the own faults is before the first of them
-pub own_ascend : (m : Model) (k : FaultKind) (e : Expr) (s : Standing) (p q : List ℕ) → slice_get (own_faults m k e s) 0 ≡ Some p → Contains (own_faults m k e s) q → ¬ IsPathBefore q p
+pub own_ascend : (m : Model) (k : FaultKind) (e : Expr) (s : Standing) (p q : List ℕ) → IsAt (own_faults m k e s) 0 p → Contains (own_faults m k e s) q → ¬ IsPathBefore q p
 own_ascend m k e s p q first among = first_least (own_faults m k e s) p q (least_own_at m k e s s.at refl) first among
 
 -- ---- own faults come before those of arguments
@@ -144,7 +145,7 @@ early_one : (b : Bool) → list_all (is_early 2) (places (place_unless b 1)) ≡
 early_one true = refl
 early_one false = refl
 
-early_names : (m : Model) (f : Expr-F Expr) (t i : ℕ) (arg : Expr) → slice_get (argument_list f) i ≡ Some arg → list_all (is_early (first_place f)) (places (unknown_names m f t)) ≡ true
+early_names : (m : Model) (f : Expr-F Expr) (t i : ℕ) (arg : Expr) → IsAt (argument_list f) i arg → list_all (is_early (first_place f)) (places (unknown_names m f t)) ≡ true
 early_names m (Num n) t i arg found = cc
 early_names m (Attr a) t i arg found = cc
 early_names m (Count p) t i arg found = cc
@@ -162,7 +163,7 @@ early_wrong_none : (place : ℕ) (w : Bool) → list_all (is_early place) (whole
 early_wrong_none place true = refl
 early_wrong_none place false = refl
 
-early_wrong : (m : Model) (f : Expr-F Expr) (t : ℕ) (w : Bool) (i : ℕ) (arg : Expr) → slice_get (argument_list f) i ≡ Some arg
+early_wrong : (m : Model) (f : Expr-F Expr) (t : ℕ) (w : Bool) (i : ℕ) (arg : Expr) → IsAt (argument_list f) i arg
     → list_all (is_early (first_place f)) (whole_if w ++ places (wrong_attributes m f t)) ≡ true
 early_wrong m (Attr a) t w i arg found = cc
 early_wrong m (Sum p a) t w i arg found = cc
@@ -170,7 +171,7 @@ early_wrong m (Total u a) t w i arg found = cc
 early_wrong m (Is a x) t w i arg found = cc
 early_wrong m form t w i arg found = early_wrong_none (first_place form) w
 
-early_own : (m : Model) (k : FaultKind) (e : Expr) (s : Standing) (at : Option ℕ) → s.at ≡ at → (i : ℕ) (arg : Expr) → slice_get (argument_list (out-Expr e)) i ≡ Some arg
+early_own : (m : Model) (k : FaultKind) (e : Expr) (s : Standing) (at : Option ℕ) → s.at ≡ at → (i : ℕ) (arg : Expr) → IsAt (argument_list (out-Expr e)) i arg
     → list_all (is_early (first_place (out-Expr e))) (own_faults m k e s) ≡ true
 early_own m Deep e s at is i arg found = early_whole (first_place (out-Expr e)) (is_too_deep s.levels)
 early_own m UnknownName e s None is i arg found = rw is refl
@@ -186,7 +187,7 @@ not_before_early place j path (k ∷ []) early beyond =
 not_before_early place j path (k ∷ l ∷ q) early beyond = absurd (false≢true early)
 
 -- no fault of an argument is before one of the part's own
-pub own_before_inner : (m : Model) (k : FaultKind) (e : Expr) (s : Standing) (i : ℕ) (arg : Expr) (path q : List ℕ) → slice_get (argument_list (out-Expr e)) i ≡ Some arg
+pub own_before_inner : (m : Model) (k : FaultKind) (e : Expr) (s : Standing) (i : ℕ) (arg : Expr) (path q : List ℕ) → IsAt (argument_list (out-Expr e)) i arg
     → Contains (own_faults m k e s) q → ¬ IsPathBefore ((first_place (out-Expr e) + i) ∷ path) q
 own_before_inner m k e s i arg path q found among =
     not_before_early (first_place (out-Expr e)) (first_place (out-Expr e) + i) path q

@@ -1,8 +1,9 @@
 -- Where no name is unknown and no kind is wrong, the innermost parts without bounds are wide.
 use Rattle.std.proofs.Common.{◌≡◌, ℕ, ◌+◌, ◌∙◌, sym, ap, refl, Bool, true, false, List, [], ◌∷◌, Option, Some, None, IsTrue, Contains, arith}
-use Rattle.std.specs.Prelude.{slice_get, is_some, is_none}
+use Rattle.std.specs.Prelude.{is_some, is_none}
 use Rattle.std.specs.Option.{option_map_or}
 use Rattle.std.proofs.lemmas.Bool.{false≢true}
+use Rattle.base_laws.specs.Places.{IsAt}
 use Rattle.prod_model.specs.declared.model.Model.{Model}
 use Rattle.prod_model.specs.declared.expr.Expr.{Expr}
 use Rattle.prod_model.specs.declared.expr.Expr.TheViews.{out-Expr}
@@ -43,7 +44,7 @@ none_there (Some x) none = absurd (false≢true none)
 
 -- where no kind is wrong, an argument that has bounds is of the kind that its form needs
 right_argument : (m : Model) (part : Expr) (of : ℕ) → ((k : ℕ) → ¬ Contains (wrong_arguments (out-Expr part)) k) → has_bounded_arguments m part of ≡ true
-    → (i : ℕ) (arg : Expr) → slice_get (argument_list (out-Expr part)) i ≡ Some arg
+    → (i : ℕ) (arg : Expr) → IsAt (argument_list (out-Expr part)) i arg
     → HasKind m arg (type_of_arguments m (out-Expr part) (Some of)) (needs_truths (out-Expr part))
 right_argument m part of right all i arg found =
     let needed = needs_truths (out-Expr part) in

@@ -1,7 +1,8 @@
 -- The ends of a form: what its low and high are before the limits are applied.
-use Rattle.std.specs.Prelude.{ℕ, ℤ, pos, ◌+ℤ◌, ◌-ℤ◌, ◌*ℤ◌, Bool, false, not, ◌||◌, List, [], ◌∷◌, map, Some, None}
+use Rattle.std.specs.Prelude.{ℕ, ℤ, pos, ◌-ℤ◌, ◌*ℤ◌, Bool, false, not, ◌||◌, List, map, if◌then◌else◌, Some, None}
 use Rattle.std.specs.declared.option.Option.{Option}
 use Rattle.std.specs.Option.{option_map_or, option_and_then, option_map}
+use Rattle.std.specs.List.{list_all}
 use Rattle.std.specs.Int.{int_min, int_max}
 use Rattle.prod_model.specs.declared.model.Model.{Model}
 use Rattle.prod_model.specs.declared.model.AttrAt.{AttrAt}
@@ -12,7 +13,7 @@ use Rattle.prod_model.specs.declared.expr.Expr.{Expr}
 use Rattle.prod_model.specs.declared.expr.Expr.TheOpen.{Expr-F, Num, Attr, Sum, Total, Add, Sub, Times}
 use Rattle.prod_model.specs.Limits.{is_within, farthest_bound}
 use Rattle.prod_model.specs.Taxonomy.{attribute_of, port_of}
-use Rattle.prod_model.specs.ExprBounds.{bounds_at}
+use Rattle.prod_model.specs.ExprBounds.{bounds_at, is_number, low_of, high_of, sum_of}
 
 -- the low and the high of a number, and nothing where it is a truth or has no bounds
 abbrev pub ends_within : Option Bounds → Option (ℤ × ℤ)
@@ -32,15 +33,11 @@ abbrev pub ends_of_some : ℕ → ℕ → ℤ × ℤ → ℤ × ℤ
 ends_of_some l h (a, b) =
     (int_min (pos l *ℤ a) (pos h *ℤ a), int_max (pos l *ℤ b) (pos h *ℤ b))
 
--- the sum of two lows, and that of two highs
-abbrev pub ends_of_both : ℤ × ℤ → ℤ × ℤ → ℤ × ℤ
-ends_of_both (a, b) (c, d) = (a +ℤ c, b +ℤ d)
-
 -- the sum of the lows, and that of the highs, where all are numbers
 abbrev pub ends_of_all : List (Option Bounds) → Option (ℤ × ℤ)
-ends_of_all [] = Some (pos 0, pos 0)
-ends_of_all (b ∷ more) =
-    option_and_then (λ e. option_map (ends_of_both e) (ends_of_all more)) (ends_within b)
+ends_of_all args =
+    if list_all is_number args then Some (sum_of (map low_of args), sum_of (map high_of args))
+    else None
 
 -- the least and the greatest difference of two numbers
 abbrev pub ends_of_difference : ℤ × ℤ → ℤ × ℤ → ℤ × ℤ

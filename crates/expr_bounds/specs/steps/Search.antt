@@ -1,10 +1,11 @@
 -- The search for the first fault of a kind.
-use Rattle.std.specs.Prelude.{◌≡◌, ℕ, ◌+◌, zero, suc, Bool, false, not, ◌&&◌, ◌==◌, IsTrue, List, [], ◌∷◌, ◌++◌, map, slice_get, if◌then◌else◌, is_some, is_none, Some, None, Contains}
+use Rattle.std.specs.Prelude.{◌≡◌, ℕ, ◌+◌, zero, suc, Bool, false, not, ◌&&◌, ◌==◌, IsTrue, List, [], ◌∷◌, ◌++◌, map, if◌then◌else◌, is_some, is_none, Some, None, Contains}
 use Rattle.std.specs.declared.option.Option.{Option}
 use Rattle.std.specs.Option.{option_map_or, option_and_then}
 use Rattle.std.specs.List.{list_all}
 use Rattle.std.specs.Ordering.{nat_cmp, is_lt}
 use Rattle.std.specs.Cmp.Lexicographic.{slice_cmp}
+use Rattle.base_laws.specs.Places.{IsAt}
 use Rattle.prod_model.specs.declared.model.Model.{Model}
 use Rattle.prod_model.specs.declared.expr.Expr.{Expr}
 use Rattle.prod_model.specs.declared.expr.Expr.TheOpen.{Expr-F}
@@ -85,7 +86,7 @@ pub data HasFaultAt (m : Model) (fault_kind : FaultKind) : Expr → Standing →
   own : {e : Expr} {s : Standing} {path : List ℕ}
       → Contains (own_faults m fault_kind e s) path → HasFaultAt m fault_kind e s path
   inner : {e : Expr} {s : Standing} (i : ℕ) (arg : Expr)
-      → slice_get (argument_list (out-Expr e)) i ≡ Some arg
+      → IsAt (argument_list (out-Expr e)) i arg
       → {path : List ℕ} → HasFaultAt m fault_kind arg (standing_below m e s) path
       → HasFaultAt m fault_kind e s ((first_place (out-Expr e) + i) ∷ path)
 

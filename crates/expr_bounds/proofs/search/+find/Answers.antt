@@ -1,5 +1,6 @@
-use Rattle.std.proofs.Common.{◌≡◌, ◌<◌, ◌+◌, ◌∷◌, length, Some, None, subst, sym, rules, arith, List, ℕ}
+use Rattle.std.proofs.Common.{◌≡◌, ◌<◌, ◌+◌, ◌∷◌, length, None, subst, sym, rules, arith, List, ℕ}
 use Rattle.std.specs.Prelude.{slice_get}
+use Rattle.base_laws.specs.Places.{IsAt}
 use Rattle.prod_model.specs.declared.expr.Expr.TheViews.{out-Expr}
 use Rattle.prod_model.specs.First.{IsFirst}
 use Rattle.prod_model.specs.Nesting.{nesting}
@@ -13,7 +14,7 @@ use Rattle.expr_bounds.proofs.search.+find.Goals as goal
 -- the first of a part's own faults is before all in its arguments
 pub returns-in-Some : goal.returns-in-Some
 returns-in-Some t c =
-    let first : slice_get (own_faults c.args.model.now c.args.fault_kind c.args.part.now c.args.standing) 0 ≡ Some c.in-Some.path = search rules in
+    let first : IsAt (own_faults c.args.model.now c.args.fault_kind c.args.part.now c.args.standing) 0 c.in-Some.path = search rules in
     finds_own c.args.model.now c.args.fault_kind c.args.part.now c.args.standing c.in-Some.path first
 
 pub find-requires : goal.find-requires
