@@ -1,0 +1,4 @@
+pub mod Bits
+pub mod Members
+pub mod Least
+pub mod Ones
