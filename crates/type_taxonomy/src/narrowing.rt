@@ -4,7 +4,7 @@ ghost use Rattle.std.specs.Option.{option_map_or};
 ghost use Rattle.std.specs.List.{list_any, list_all};
 ghost use Rattle.prod_model.specs.Forest.{is_a};
 ghost use Rattle.prod_model.specs.Names.{same_text};
-ghost use Rattle.prod_model.specs.Valid.{narrows_domain, same_kind};
+ghost use Rattle.prod_model.specs.Valid.{narrows_domain};
 ghost use Rattle.type_taxonomy.specs.steps.Above.{attribute_passes, port_passes};
 ghost use Rattle.type_taxonomy.specs.steps.Built.{IsBuilt};
 ghost use Rattle.type_taxonomy.specs.steps.ByName.{found};
@@ -15,7 +15,7 @@ use crate::by_name::{Found, is_free, look_up};
 use crate::forest::Forest;
 use crate::line::is_in;
 use indexmap::IndexMap;
-use prod_model::{AttrDecl, Domain, Name, PortDecl, PortKind};
+use prod_model::{AttrDecl, Domain, Name, PortDecl};
 
 fn has_word(words: &[Name], word: &Name) -> bool
     ensures { result ≡ list_any (same_text word.now) words.now }
@@ -49,12 +49,6 @@ fn narrows_domain(domain: &Domain, wide: &Domain) -> bool
     }
 }
 
-fn same_kind(kind: PortKind, other: PortKind) -> bool
-    ensures { result ≡ same_kind kind other }
-{
-    kind == other
-}
-
 fn is_a(forest: &Forest, t: u32, u: u32) -> bool
     requires { IsBuilt forest.now }
     ensures { result ≡ is_a forest.now.model.now t u }
@@ -71,7 +65,7 @@ fn narrows_port(forest: &Forest, port: &PortDecl, wide: &PortDecl) -> bool
     requires { IsBuilt forest.now }
     ensures { result ≡ lies_within forest.now.model.now port.now wide.now }
 {
-    same_kind(port.kind, wide.kind)
+    port.kind == wide.kind
         && wide.low <= port.low
         && port.high <= wide.high
         && is_a(forest, port.target, wide.target)
