@@ -6,6 +6,7 @@ use Rattle.config_value.specs.declared.configuration.Instance.{Instance}
 use Rattle.config_value.specs.Satisfies.{all_kept}
 use Rattle.config_value.specs.Preferred.{IsPreferred}
 use Rattle.config_value.specs.Conflict.{IsPreferredConflict}
+use Rattle.model_reader.specs.declared.fault.FaultCode.{FaultCode}
 use Rattle.model_reader.specs.Files.{IsFileOf, IsFaultOf}
 use Rattle.model_reader.specs.PlainFile.{plain_model}
 use Rattle.canonical_form.specs.AnswerText.{answer_text}
@@ -35,11 +36,11 @@ pub data IsPreferredOutcome (m : Model) (o : Order) (status : Status) (text : Li
 -- What the bytes of a model and an order result in: the fault of the model, else that of the
 -- order, else the preferred outcome.
 pub data IsConfigured (model order : List ℕ) (status : Status) (text : List ℕ) : Type 0 where
-  refused_model : (code : ℕ) → IsFaultOf plain_model model code
+  refused_model : (code : FaultCode) → IsFaultOf plain_model model code
       → status ≡ Refused → text ≡ refused_text (codes "model") code
       → IsConfigured model order status text
   refused_order : (m : Model) → IsFileOf plain_model model m
-      → (code : ℕ) → IsFaultOf (plain_order (attributes_declared m)) order code
+      → (code : FaultCode) → IsFaultOf (plain_order (attributes_declared m)) order code
       → status ≡ Refused → text ≡ refused_text (codes "order") code
       → IsConfigured model order status text
   preferred_outcome : (m : Model) → IsFileOf plain_model model m

@@ -1,5 +1,7 @@
 -- The texts that are written, but for the answer and the conflict.
 use Rattle.std.specs.Prelude.{ℕ, ◌+◌, ◌/◌, ◌%◌, List, [], ◌∷◌, ◌++◌, codes}
+use Rattle.model_reader.specs.declared.fault.FaultCode.{FaultCode}
+use Rattle.model_reader.specs.Codes.{number_of}
 use Rattle.canonical_form.specs.AnswerText.{line_end}
 
 -- the line for words that are none of the accepted forms
@@ -13,6 +15,6 @@ abbrev pub code_text : ℕ → List ℕ
 code_text code = codes "F" ++ (48 + code / 10) ∷ (48 + code % 10) ∷ []
 
 -- a refused file, the code of its fault, and the place of the whole document
-unfoldable pub refused_text : List ℕ → ℕ → List ℕ
+unfoldable pub refused_text : List ℕ → FaultCode → List ℕ
 refused_text file code =
-    codes "refused " ++ file ++ codes " " ++ code_text code ++ codes " /" ++ line_end
+    codes "refused " ++ file ++ codes " " ++ code_text (number_of code) ++ codes " /" ++ line_end

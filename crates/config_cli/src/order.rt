@@ -129,8 +129,9 @@ fn attributes_of(alloc: Global, problem: &Problem) -> Result<Attributes<'_>, All
 
 /// Reads a plain order for a plain model.
 ///
-/// Fault 1 comes where the file has more than 4,194,304 bytes, else fault 2 where it is no JSON
-/// text, and else fault 90 where its value stands for no plain order.
+/// `TooLong` comes where the file has more than 4,194,304 bytes, else `NoJson` where it is no JSON
+/// text, and else `Unsupported` where its value stands for no plain order. `Memory` where memory
+/// runs out.
 pub fn read_order(alloc: Global, problem: &Problem, bytes: &[u8]) -> Result<Order, Refusal>
     requires plain { IsTrue (is_plain problem.now) }
     ensures valid { IfOk result (λ o. IsValidOrder problem.now o) }

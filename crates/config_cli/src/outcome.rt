@@ -8,7 +8,7 @@ ghost use Rattle.model_reader.specs.Refused.{RefusesFile};
 ghost use Rattle.config_cli.specs.PlainOrder.{attributes_declared, plain_order};
 ghost use Rattle.config_cli.specs.Results.{IsConfigured, IsPreferredOutcome};
 ghost use Rattle.config_cli.specs.steps.Calls.{IsOfOutcome};
-ghost use Rattle.config_cli.specs.steps.Fetched.{ForFile, HasTwoDigits, IsFetchOf, IsTooLong, Refuses};
+ghost use Rattle.config_cli.specs.steps.Fetched.{ForFile, IsFetchOf, Refuses};
 ghost use Rattle.config_cli.specs.steps.Sides.{is_plain_order};
 
 use crate::order::read_order;
@@ -16,8 +16,8 @@ use crate::status::Status;
 use crate::texts::refused_text;
 use crate::walk::preferred_plain;
 use canonical_form::{write_answer, write_conflict};
-use model_reader::{Fault, Refusal, read_model};
-use prod_model::{Items, Order, Problem};
+use model_reader::{Refusal, read_model, too_long};
+use prod_model::{Order, Problem};
 use std::alloc::{AllocError, Global};
 
 /// A file as it was read.
@@ -35,21 +35,10 @@ pub struct Outcome {
     pub text: Vec<u8>,
 }
 
-// The fault of a file that is too long.
-fn too_long(alloc: Global) -> Refusal
-    ensures { IsTooLong result }
-{
-    Refusal::Fault(Fault {
-        code: 1,
-        place: Items::new(alloc),
-    })
-}
-
 fn open_model(alloc: Global, file: Fetched) -> Result<Problem, Refusal>
     ensures plain { IfOk result (λ p. IsTrue (is_plain p)) }
     ensures model { IfOk result (λ p. ForFile (λ bytes. IsFileOf plain_model bytes p) file) }
     ensures fault { IfErr result (λ e. ForFile (λ bytes. RefusesFile plain_model bytes e) file) }
-    ensures digits { IfErr result HasTwoDigits }
 {
     match file {
         Fetched::Bytes(bytes) => read_model(alloc, &bytes),
@@ -65,7 +54,6 @@ fn open_order(alloc: Global, problem: &Problem, file: Fetched) -> Result<Order, 
         (λ bytes. IsFileOf (plain_order (attributes_declared problem.now)) bytes o) file) }
     ensures fault { IfErr result (λ e. ForFile
         (λ bytes. RefusesFile (plain_order (attributes_declared problem.now)) bytes e) file) }
-    ensures digits { IfErr result HasTwoDigits }
 {
     match file {
         Fetched::Bytes(bytes) => read_order(alloc, problem, &bytes),
@@ -75,7 +63,6 @@ fn open_order(alloc: Global, problem: &Problem, file: Fetched) -> Result<Order, 
 
 // The line of a refused file, if there is memory.
 fn refused(alloc: Global, file: &str, refusal: Refusal) -> Result<Outcome, AllocError>
-    requires { HasTwoDigits refusal }
     ensures line { IfOk result (λ a. Refuses file.now refusal a.status a.text.items) }
     ensures status { IfOk result (λ a. IsOfOutcome a.status) }
 {

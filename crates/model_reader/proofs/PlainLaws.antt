@@ -16,7 +16,7 @@ use Rattle.prod_model.specs.Names.{is_distinct}
 use Rattle.prod_model.specs.Taxonomy.{attributes_at, ports_of, ports_at, tables_of, words_of}
 use Rattle.prod_model.specs.Valid.{IsValid, has_room, has_ends, is_pair, has_distinct_names, has_numbers_in_limits, has_known_types}
 use Rattle.model_reader.specs.Plain.{is_range, is_plain, attributes_declared, is_plain_type, has_one}
-use Rattle.model_reader.specs.PlainTable.{row_from}
+use Rattle.model_reader.specs.steps.PlainTable.{row_from}
 use Rattle.model_reader.proofs.StepLaws.{not_false, first_holds, second_holds, list_all_both}
 use Rattle.model_reader.proofs.RowLaws.{length_row_from, attributes_of_alone}
 use Rattle.model_reader.proofs.SideLaws.{is_sound}

@@ -1,7 +1,7 @@
 -- The model that the value of a plain file stands for: one type without parent, and rules right at it.
 use Rattle.std.proofs.Common.{◌≡◌, ℕ, ℤ, pos, negsuc, true, List, [], ◌∷◌, length, refl, sym, ap, ◌∙◌}
 use Rattle.std.proofs.lemmas.Option.{none-some}
-use Rattle.std.specs.Prelude.{Some, ◌&&◌, nat_le, codes}
+use Rattle.std.specs.Prelude.{Some, ◌&&◌, ◌==◌, codes}
 use Rattle.std.specs.List.{list_all}
 use Rattle.serde_json.specs.Data.{Data}
 use Rattle.serde_json.specs.Find.{get}
@@ -13,7 +13,7 @@ use Rattle.prod_model.specs.Limits
 use Rattle.prod_model.specs.Limits.{is_between}
 use Rattle.prod_model.specs.Names.{is_name, same_text}
 use Rattle.prod_model.specs.Taxonomy.{ports_of, attributes_at, tables_of}
-use Rattle.model_reader.specs.PlainTable.{row_from}
+use Rattle.model_reader.specs.steps.PlainTable.{row_from}
 use Rattle.model_reader.specs.Files.{◌>>=◌, has_only, text_at, whole_number, list_of, list_at, one_of}
 use Rattle.model_reader.specs.PlainFile.{plain_type, plain_rules, instances_of, plain_model}
 use Rattle.model_reader.proofs.StepLaws.{second_holds, some_same, provided_test, provided_value, found_then, list_all_by}
@@ -72,7 +72,7 @@ plain_model_of d m h =
     let one = found_then (get (codes "types") d >>= list_of >>= one_of) plain_type t.value t.found in
     let bounds = found_then (list_at (codes "bounds") d) _ m t.then_ in
     let rules = found_then (plain_rules t.value d) _ m bounds.then_ in
-    let test = same_text format.value (codes "product-model 1") && same_text root.value t.value.name && nat_le (length bounds.value) 0 in
+    let test = same_text format.value (codes "product-model 1") && same_text root.value t.value.name && (length bounds.value == 0) in
     let made = model_of t.value instances.value rules.value in
     let plain = plain_type_of one.value t.value one.then_ in
     record {

@@ -1,6 +1,6 @@
 -- What the value of a plain file gives of its type and its rules.
 use Rattle.std.proofs.Common.{◌≡◌, ℕ, Bool, true, List, [], ◌∷◌, map, length, refl, sym}
-use Rattle.std.specs.Prelude.{Some, None, ◌&&◌, nat_le, codes}
+use Rattle.std.specs.Prelude.{Some, None, ◌&&◌, ◌==◌, nat_le, codes}
 use Rattle.std.specs.List.{list_all}
 use Rattle.serde_json.specs.Data.{Data}
 use Rattle.serde_json.specs.Find.{get}
@@ -17,7 +17,7 @@ use Rattle.prod_model.specs.Taxonomy.{attributes_at}
 use Rattle.prod_model.specs.ExprBounds.{is_truth_at}
 use Rattle.prod_model.specs.Valid.{has_ends}
 use Rattle.model_reader.specs.Plain.{is_plain_comparison}
-use Rattle.model_reader.specs.PlainTable.{row_from}
+use Rattle.model_reader.specs.steps.PlainTable.{row_from}
 use Rattle.model_reader.specs.Files.{◌>>=◌, has_only, text_at, whole_number, list_of, list_at, all_of, two_of}
 use Rattle.model_reader.specs.PlainFile.{plain_range, plain_attribute, plain_type, plain_comparison, plain_rule, plain_rules}
 use Rattle.model_reader.proofs.StepLaws.{first_holds, second_holds, both_hold, some_same, provided_test, provided_value, found_then, all_of_pass}
@@ -73,7 +73,7 @@ plain_type_of d t h =
     let attributes = found_then (list_at (codes "attributes") d >>= all_of plain_attribute) _ t ports.then_ in
     let listed = found_then (list_at (codes "attributes") d) (all_of plain_attribute) attributes.value attributes.found in
     let named = is_name name.value in
-    let no_ports = nat_le (length ports.value) 0 in
+    let no_ports = (length ports.value == 0) in
     let few = nat_le (length attributes.value) Limits.most_attributes_of_type in
     let distinct = is_distinct (map (λ a. a.name) attributes.value) in
     let tests = provided_test (named && no_ports && few && distinct) _ t attributes.then_ in

@@ -9,7 +9,7 @@ use Rattle.prod_model.specs.declared.model.AttrAt.{AttrAt}
 use Rattle.prod_model.specs.declared.model.Domain.{Domain}
 use Rattle.prod_model.specs.declared.model.TypeDecl.{TypeDecl}
 use Rattle.prod_model.specs.Taxonomy.{made_attribute, new_entries, attributes_of}
-use Rattle.model_reader.specs.PlainTable.{row_from}
+use Rattle.model_reader.specs.steps.PlainTable.{row_from}
 use Rattle.model_reader.proofs.StepLaws.{first_holds, second_holds}
 
 filter_true : {A : Type 0} (xs : List A) → filter (λ x. true) xs ≡ xs

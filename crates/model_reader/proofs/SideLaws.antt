@@ -28,7 +28,7 @@ use Rattle.prod_model.specs.Nesting.{nesting, layer_nesting}
 use Rattle.prod_model.specs.ExprBounds.{bounds_at, layer_bounds, bounded, comparison, of_range, is_truth_at, is_truth, is_number}
 use Rattle.prod_model.specs.Valid.{has_ends}
 use Rattle.model_reader.specs.Plain.{is_range, is_plain_side, is_plain_comparison}
-use Rattle.model_reader.specs.PlainTable.{row_from}
+use Rattle.model_reader.specs.steps.PlainTable.{row_from}
 use Rattle.model_reader.specs.Files.{◌>>=◌, list_of, two_of, three_of}
 use Rattle.model_reader.specs.PlainFile.{attribute_named, plain_attr, plain_number, plain_side, relation_of, plain_comparison}
 use Rattle.model_reader.proofs.StepLaws.{not_false, first_holds, second_holds, both_hold, some_same, provided_test, provided_value, found_then}

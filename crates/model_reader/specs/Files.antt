@@ -8,6 +8,8 @@ use Rattle.serde_json.specs.Data.{Data, Items, no_items, item, Members, no_membe
 use Rattle.serde_json.specs.Read.{read}
 use Rattle.serde_json.specs.Find.{get, as_array, as_object, as_str, as_number, as_i64}
 use Rattle.prod_model.specs.Names.{same_text}
+use Rattle.model_reader.specs.declared.fault.FaultCode.{FaultCode}
+use Rattle.model_reader.specs.declared.fault.FaultCode.TheVariants.{TooLong, NoJson, Unsupported}
 
 -- ---- the value of a file
 
@@ -34,14 +36,17 @@ pub record IsNoFileOf {A : Type 0} (reading : Data → Option A) (bytes : List �
   pub value : IsValue bytes data_
   pub stands_for_none : reading data_ ≡ None
 
--- The number of the fault of the whole file: it is too long, else no JSON, else its value is read as nothing.
-pub data IsFaultOf {A : Type 0} (reading : Data → Option A) (bytes : List ℕ) (code : ℕ) : Type 0 where
-  too_long : code ≡ 1 → most_bytes < length bytes → IsFaultOf reading bytes code
-  no_value : code ≡ 2 → length bytes ≤ most_bytes → ((d : Data) → ¬ IsValue bytes d) → IsFaultOf reading bytes code
-  unsupported : code ≡ 90 → IsNoFileOf reading bytes → IsFaultOf reading bytes code
+-- The fault of the whole file: it is too long, else no JSON, else its value is read as nothing.
+pub data IsFaultOf {A : Type 0} (reading : Data → Option A) (bytes : List ℕ) (code : FaultCode)
+    : Type 0 where
+  too_long : code ≡ TooLong → most_bytes < length bytes → IsFaultOf reading bytes code
+  no_value : code ≡ NoJson → length bytes ≤ most_bytes → ((d : Data) → ¬ IsValue bytes d)
+      → IsFaultOf reading bytes code
+  unsupported : code ≡ Unsupported → IsNoFileOf reading bytes → IsFaultOf reading bytes code
 
 -- ---- what stands in a value, or nothing
 
+-- what the next step makes of what was found, and nothing where nothing was
 infixl 10 ◌>>=◌
 abbrev pub ◌>>=◌ : {A B : Type 0} → Option A → (A → Option B) → Option B
 o >>= f = option_and_then f o
@@ -50,6 +55,7 @@ o >>= f = option_and_then f o
 abbrev pub provided : {A : Type 0} → Bool → Option A → Option A
 provided test o = if test then o else None
 
+-- members with none but the listed keys
 abbrev pub has_only_keys : List (List ℕ) → Members → Bool
 has_only_keys listed no_members = true
 has_only_keys listed (member k d ms) = list_any (same_text k) listed && has_only_keys listed ms
@@ -66,6 +72,7 @@ text_at key d = get key d >>= as_str
 abbrev pub whole_number : Data → Option ℤ
 whole_number d = as_number d >>= as_i64
 
+-- the values of the members, in order
 abbrev pub values_of : Items → List Data
 values_of no_items = []
 values_of (item d ds) = d ∷ values_of ds

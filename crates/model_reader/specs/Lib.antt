@@ -1,5 +1,6 @@
+pub mod Codes
 pub mod Plain
-pub mod PlainTable
 pub mod Files
 pub mod PlainFile
 pub mod Refused
+pub mod steps

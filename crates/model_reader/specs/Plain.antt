@@ -1,4 +1,5 @@
--- Plain models: one type, with whole numbers for attributes, and rules that compare two numbers or attributes.
+-- Plain models: one type, with whole numbers for attributes, and rules that compare two numbers or
+-- attributes.
 use Rattle.std.specs.Prelude.{Bool, true, false, ◌&&◌, ◌==◌, List, [], ◌∷◌, length, is_none, slice_get}
 use Rattle.std.specs.Option.{option_map_or}
 use Rattle.std.specs.List.{list_all}
@@ -11,14 +12,17 @@ use Rattle.prod_model.specs.declared.expr.Expr.{Expr}
 use Rattle.prod_model.specs.declared.expr.Expr.TheOpen.{Expr-F, Num, Attr, Cmp}
 use Rattle.prod_model.specs.declared.expr.Expr.TheViews.{out-Expr}
 
+-- whole numbers from low to high
 abbrev pub is_range : Domain → Bool
 is_range (Range low high) = true
 is_range (Words words) = false
 
 -- no parent, no ports, and attributes with a range only
 abbrev pub is_plain_type : TypeDecl → Bool
-is_plain_type t = is_none t.parent && (length t.ports == 0) && list_all (λ a. is_range a.domain) t.attributes
+is_plain_type t =
+    is_none t.parent && (length t.ports == 0) && list_all (λ a. is_range a.domain) t.attributes
 
+-- one member, which passes the test
 abbrev pub has_one : {A : Type 0} → (A → Bool) → List A → Bool
 has_one test (x ∷ []) = test x
 has_one test _ = false
@@ -34,8 +38,11 @@ abbrev pub is_plain_comparison : Expr-F Expr → Bool
 is_plain_comparison (Cmp r x y) = is_plain_side (out-Expr x) && is_plain_side (out-Expr y)
 is_plain_comparison _ = false
 
+-- one plain type, no entry of `bounds`, and rules that are plain comparisons
 unfoldable pub is_plain : Model → Bool
-is_plain m = has_one is_plain_type m.types && (length m.bounds == 0) && list_all (λ r. is_plain_comparison (out-Expr r.holds)) m.rules
+is_plain m =
+    has_one is_plain_type m.types && (length m.bounds == 0)
+    && list_all (λ r. is_plain_comparison (out-Expr r.holds)) m.rules
 
 -- the attributes that the first type declares
 abbrev pub attributes_declared : Model → List AttrDecl

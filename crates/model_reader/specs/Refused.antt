@@ -1,13 +1,14 @@
 -- What a refusal says of a file.
-use Rattle.std.specs.Prelude.{◌≡◌, List, [], ℕ}
+use Rattle.std.specs.Prelude.{◌≡◌, ℕ, List, []}
 use Rattle.std.specs.declared.option.Option.{Option}
 use Rattle.serde_json.specs.Data.{Data}
+use Rattle.model_reader.specs.declared.fault.FaultCode.{FaultCode}
 use Rattle.model_reader.specs.declared.fault.Refusal.{Refusal}
 use Rattle.model_reader.specs.declared.fault.Refusal.TheVariants.{Fault, Memory}
 use Rattle.model_reader.specs.Files.{IsFaultOf}
 
 -- the refusal by a fault of the whole file
-abbrev pub whole_file : ℕ → Refusal
+abbrev pub whole_file : FaultCode → Refusal
 whole_file code = Fault (record { code = code; place = [] })
 
 -- a fault of the whole file; want of memory says nothing of the file

@@ -23,7 +23,8 @@ impl<'t> Model for Attributes<'t> {
 
     ghost view = { λ a. a.declared.now };
 
-    ghost invariant = { λ a. (a.names ≡ map (λ d. d.name) a.declared.now) × (length a.declared.now ≤ 32) };
+    ghost invariant = { λ a. (a.names ≡ map (λ d. d.name) a.declared.now)
+        × (length a.declared.now ≤ 32) };
 }
 
 impl<'t> Attributes<'t> {

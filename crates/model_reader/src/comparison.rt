@@ -10,12 +10,10 @@ ghost use Rattle.model_reader.specs.PlainFile.{plain_attr, plain_number, plain_s
 use crate::attributes::Attributes;
 use crate::members::{list_of, three_of, two_of};
 use crate::unread::Unread;
+use prod_model::limits::FARTHEST_BOUND;
 use prod_model::{Boxed, Expr, Relation};
 use serde_json::Value;
 use std::alloc::Global;
-
-/// How far a number of an expression may be from 0.
-const FARTHEST_BOUND: i64 = 1_000_000_000_000_000;
 
 /// An attribute: `["attr", A]`.
 #[tactic(auto, unfolding(crate::specs::PlainFile::plain_attr))]
@@ -73,7 +71,8 @@ fn relation_of(text: &str) -> Option<Relation>
 /// The relation of a comparison, and its sides.
 #[tactic(auto, unfolding(crate::specs::PlainFile::plain_comparison))]
 fn comparison_parts(attributes: &Attributes, value: &Value) -> Option<(Relation, Expr, Expr)>
-    ensures { option_map (λ p. Cmp p.0 p.1 p.2) result ≡ plain_comparison attributes.now (view value.now) }
+    ensures { option_map (λ p. Cmp p.0 p.1 p.2) result
+        ≡ plain_comparison attributes.now (view value.now) }
 {
     let (operator, left, right) = three_of(list_of(value)?)?;
     let relation = relation_of(operator.as_str()?)?;

@@ -2,53 +2,44 @@
 ghost use Rattle.std.specs.Prelude.{◌≡◌, Some, IfOk, IfErr, ◌≢◌, alloc_error};
 ghost use Rattle.serde_json.specs.View.{view};
 ghost use Rattle.model_reader.specs.declared.unread.Unread.TheVariants.{Other};
+ghost use Rattle.model_reader.specs.declared.fault.FaultCode.TheVariants.{Unsupported};
 ghost use Rattle.model_reader.specs.declared.fault.Refusal.TheVariants.{Memory};
 ghost use Rattle.model_reader.specs.Files.{IsFileOf};
 ghost use Rattle.model_reader.specs.Refused.{RefusesFile, whole_file};
 
-use crate::fault::{Fault, Refusal};
+use crate::fault::{FaultCode, Refusal, too_long, whole_file};
 use crate::unread::Unread;
-use prod_model::Items;
 use serde_json::Value;
 use std::alloc::{AllocError, Global};
 
 /// The most bytes of a file.
 const MOST_BYTES: usize = 4_194_304;
 
-/// A fault of the whole file.
-fn whole_file(alloc: Global, code: u32) -> Refusal
-    ensures { result ≡ whole_file code }
-{
-    Refusal::Fault(Fault {
-        code,
-        place: Items::new(alloc),
-    })
-}
-
 /// The value of a file.
 ///
-/// Fault 1 comes where the file has more than 4,194,304 bytes, and fault 2 where it has no more and is no JSON text.
+/// `TooLong` comes where the file has more than 4,194,304 bytes, and `NoJson` where it has no more
+/// and is no JSON text. `Memory` where memory runs out.
 pub fn value_of(alloc: Global, bytes: &[u8]) -> Result<Value, Refusal>
     ensures value { IfOk result (λ v. IsFileOf Some bytes.now (view v)) }
     ensures fault { IfErr result (λ e. RefusesFile Some bytes.now e) }
 {
     if bytes.len() > MOST_BYTES {
-        return Err(whole_file(alloc, 1));
+        return Err(too_long(alloc));
     }
     match Value::from_slice(alloc, bytes) {
         Ok(value) => Ok(value),
         Err(e) if e.is_memory() => Err(Refusal::Memory(AllocError)),
-        Err(_) => Err(whole_file(alloc, 2)),
+        Err(_) => Err(whole_file(alloc, FaultCode::NoJson)),
     }
 }
 
-/// What is told of a file whose value isn't read: fault 90, unless memory was wanting.
+/// What is told of a file whose value isn't read: `Unsupported`, unless memory was wanting.
 pub fn refusal_of(alloc: Global, unread: Unread) -> Refusal
-    ensures other { unread ≡ Other → result ≡ whole_file 90 }
+    ensures other { unread ≡ Other → result ≡ whole_file Unsupported }
     ensures memory { unread ≢ Other → result ≡ Memory alloc_error }
 {
     match unread {
-        Unread::Other => whole_file(alloc, 90),
+        Unread::Other => whole_file(alloc, FaultCode::Unsupported),
         Unread::Memory(e) => Refusal::Memory(e),
     }
 }

@@ -22,7 +22,8 @@ pub fn has_only(value: &Value, listed: &[&str]) -> bool
 }
 
 fn are_listed(members: &Map<String, Value>, listed: &[&str]) -> bool
-    ensures { result ≡ list_all (λ key. list_any (λ l. same_text (string_bytes key) l.now) listed.now) (keys members.now) }
+    ensures { result ≡ list_all
+        (λ key. list_any (λ l. same_text (string_bytes key) l.now) listed.now) (keys members.now) }
 {
     members.keys().all(|key| is_listed(key.as_str(), listed))
 }
@@ -40,7 +41,8 @@ pub fn text_at<'v>(value: &'v Value, key: &str) -> Option<&'v str>
     value.get(key).and_then(Value::as_str)
 }
 
-/// A number that is whole: one with a fraction or an exponent is none, also where its value is whole.
+/// A number that is whole: one with a fraction or an exponent is none, also where its value is
+/// whole.
 pub fn whole_number(value: &Value) -> Option<i64>
     ensures { result ≡ whole_number (view value.now) }
 {
@@ -87,7 +89,8 @@ pub fn two_of(list: &[Value]) -> Option<(&Value, &Value)>
 
 /// The three values of a list.
 pub fn three_of(list: &[Value]) -> Option<(&Value, &Value, &Value)>
-    ensures { option_map (λ p. (view p.0.now, view p.1.now, view p.2.now)) result ≡ three_of (map view list.now) }
+    ensures { option_map (λ p. (view p.0.now, view p.1.now, view p.2.now)) result
+        ≡ three_of (map view list.now) }
 {
     match list {
         [first, second, third] => Some((first, second, third)),

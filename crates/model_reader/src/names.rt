@@ -1,5 +1,5 @@
 //! Names in their order, for looking one up and for telling whether one came before.
-ghost use Rattle.std.specs.Prelude.{◌≡◌, ◌<◌, ◌^◌, List, [], ◌∷◌, ◌++◌, not, length, IfOk, if◌then◌else◌};
+ghost use Rattle.std.specs.Prelude.{◌≡◌, ◌<◌, ◌^◌, List, [], ◌∷◌, ◌++◌, not, length, IfOk, OnErr, if◌then◌else◌};
 ghost use Rattle.std.specs.List.{list_any, position};
 ghost use Rattle.prod_model.specs.Names.{same_text};
 
@@ -30,12 +30,15 @@ impl<'n> Names<'n> {
         }
     }
 
+    /// Puts the name last and returns `true`. The names stay where it is among them already, which
+    /// returns `false`, and where memory runs out, which is an `Err`.
     #[tactic(auto, using(crate::proofs::NameLaws::searching))]
-    /// Puts the name last and returns `true`. Where it is among the names already, they stay.
     pub fn insert(&mut self, name: &'n [u8]) -> Result<bool, AllocError>
-        ensures added { IfOk result (λ added. added ≡ not (list_any (same_text name.now) self.old)) }
+        ensures added { IfOk result
+            (λ added. added ≡ not (list_any (same_text name.now) self.old)) }
         ensures names { IfOk result
             (λ added. self.new ≡ (if added then self.old ++ name.now ∷ [] else self.old)) }
+        ensures unchanged { OnErr result (self.new ≡ self.old) }
     {
         let Ok(added) = self.texts.insert(name) else {
             return Err(AllocError);
@@ -43,8 +46,8 @@ impl<'n> Names<'n> {
         Ok(added)
     }
 
-    #[tactic(auto, using(crate::proofs::NameLaws::searching))]
     /// The place of a name, counted from 0.
+    #[tactic(auto, using(crate::proofs::NameLaws::searching))]
     pub fn place_of(&self, name: &[u8]) -> Option<u32>
         requires { length self.now < 2 ^ 32 }
         ensures { result ≡ position (λ n. same_text n name.now) self.now }

@@ -8,9 +8,10 @@ ghost use Rattle.model_reader.specs.Files.{list_of, one_of, whole_number};
 ghost use Rattle.model_reader.specs.PlainFile.{instances_of, plain_model};
 
 use crate::members::{has_only, list_at, list_of, one_of, text_at, whole_number};
-use crate::plain_type::plain_type;
+use crate::plain_type::formed_type;
 use crate::rule::plain_rules;
 use crate::unread::Unread;
+use prod_model::limits::MOST_INSTANCES;
 use prod_model::{Items, Model, Rule, TypeDecl};
 use serde_json::Value;
 use std::alloc::{AllocError, Global};
@@ -20,7 +21,7 @@ use std::alloc::{AllocError, Global};
 fn instances_of(n: i64) -> Option<u32>
     ensures { result ≡ instances_of n }
 {
-    if 1 <= n && n <= 64 {
+    if 1 <= n && n <= MOST_INSTANCES as i64 {
         Some(n as u32)
     } else {
         None
@@ -28,14 +29,16 @@ fn instances_of(n: i64) -> Option<u32>
 }
 
 fn instances_at(value: &Value) -> Option<u32>
-    ensures { result ≡ option_and_then instances_of (option_and_then whole_number (get (codes "instances") (view value.now))) }
+    ensures { result ≡ option_and_then instances_of
+        (option_and_then whole_number (get (codes "instances") (view value.now))) }
 {
     instances_of(whole_number(value.get("instances")?)?)
 }
 
 /// The one entry of `types`.
 fn type_at(value: &Value) -> Option<&Value>
-    ensures { option_map (λ v. view v.now) result ≡ option_and_then one_of (option_and_then list_of (get (codes "types") (view value.now))) }
+    ensures { option_map (λ v. view v.now) result ≡ option_and_then one_of
+        (option_and_then list_of (get (codes "types") (view value.now))) }
 {
     one_of(list_of(value.get("types")?)?)
 }
@@ -47,8 +50,13 @@ fn model_of(
     t: TypeDecl,
     rules: Items<Rule>,
 ) -> Result<Model, AllocError>
-    ensures { IfOk result
-        (λ m. m ≡ record { root = 0; instances = instances; types = t ∷ []; bounds = []; rules = rules }) }
+    ensures { IfOk result (λ m. m ≡ record {
+      root = 0;
+      instances = instances;
+      types = t ∷ [];
+      bounds = [];
+      rules = rules;
+    }) }
 {
     let mut types = Items::new(alloc);
     types.push(t)?;
@@ -76,9 +84,9 @@ pub fn plain_model(alloc: Global, value: &Value) -> Result<Model, Unread>
     let format = text_at(value, "format").ok_or(Unread::Other)?;
     let root = text_at(value, "root").ok_or(Unread::Other)?;
     let instances = instances_at(value).ok_or(Unread::Other)?;
-    let t = plain_type(alloc, type_at(value).ok_or(Unread::Other)?)?;
-    let bounds = list_at(value, "bounds").ok_or(Unread::Other)?;
+    let t = formed_type(alloc, type_at(value).ok_or(Unread::Other)?)?;
     let rules = plain_rules(alloc, &t, value)?;
+    let bounds = list_at(value, "bounds").ok_or(Unread::Other)?;
     if format != "product-model 1" || root.as_bytes() != t.name.bytes() || !bounds.is_empty() {
         return Err(Unread::Other);
     }

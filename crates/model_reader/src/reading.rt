@@ -15,8 +15,9 @@ use std::alloc::Global;
 
 /// Reads a plain product model.
 ///
-/// Fault 1 comes where the file has more than 4,194,304 bytes, else fault 2 where it is no JSON text, and else fault 90
-/// where its value stands for no plain model.
+/// `TooLong` comes where the file has more than 4,194,304 bytes, else `NoJson` where it is no JSON
+/// text, and else `Unsupported` where its value stands for no plain model. `Memory` where memory
+/// runs out.
 pub fn read_model(alloc: Global, bytes: &[u8]) -> Result<Problem, Refusal>
     ensures valid { IfOk result (λ p. IsValid p) }
     ensures plain { IfOk result (λ p. IsTrue (is_plain p)) }

@@ -22,7 +22,7 @@ const COURIER: &str = r#"{
 fn fault_of(alloc: Global, bytes: &[u8]) -> Result<u32, AllocError> {
     match read_model(alloc, bytes) {
         Ok(_) => Ok(0),
-        Err(Refusal::Fault(fault)) => Ok(fault.code),
+        Err(Refusal::Fault(fault)) => Ok(fault.code.number()),
         Err(Refusal::Memory(e)) => Err(e),
     }
 }
@@ -215,7 +215,8 @@ fn reads_rules(rt: HostRuntime) -> Result<(), Fail> {
         (r#"{"name": "r", "type": "Van", "holds": ["+", 2, 1]}"#, 90),
         (r#"{"name": "r", "type": "Van", "holds": true}"#, 90),
         (
-            r#"{"name": "r", "type": "Van", "holds": ["<", 1, 2]}, {"name": "r", "type": "Van", "holds": ["<", 1, 3]}"#,
+            r#"{"name": "r", "type": "Van", "holds": ["<", 1, 2]},
+               {"name": "r", "type": "Van", "holds": ["<", 1, 3]}"#,
             90,
         ),
     ];

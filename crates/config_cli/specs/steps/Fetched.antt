@@ -1,5 +1,5 @@
 -- What a read that stops at the limit shows of a file.
-use Rattle.std.specs.Prelude.{◌≡◌, ℕ, ◌<◌, List, [], length, Some}
+use Rattle.std.specs.Prelude.{◌≡◌, ℕ, ◌<◌, List, length, Some}
 use Rattle.cfg_io.specs.Shelves.{file}
 use Rattle.model_reader.specs.Files.{most_bytes}
 use Rattle.model_reader.specs.declared.fault.Refusal.{Refusal}
@@ -23,16 +23,6 @@ IsFetchAt files name fetched =
 -- it is so of each file that this may have been read of
 abbrev pub ForFile : (List ℕ → Type 0) → Fetched → Type 0
 ForFile P fetched = (bytes : List ℕ) → IsFetchOf bytes fetched → P bytes
-
--- the refusal of a file that is too long
-abbrev pub IsTooLong : Refusal → Type 0
-IsTooLong (Fault f) = (f.code ≡ 1) × (f.place ≡ [])
-IsTooLong (Memory e) = ⊥
-
--- the number of a fault has at most two digits
-abbrev pub HasTwoDigits : Refusal → Type 0
-HasTwoDigits (Fault f) = f.code < 100
-HasTwoDigits (Memory e) = Unit {0}
 
 -- the status and the line for a fault
 abbrev pub Refuses : List ℕ → Refusal → Status → List ℕ → Type 0

@@ -14,7 +14,7 @@ fn fault_of(alloc: Global, bytes: &[u8]) -> Result<u32, Refusal> {
     let problem = read_model(alloc, VAN.as_bytes())?;
     match read_order(alloc, &problem, bytes) {
         Ok(_) => Ok(0),
-        Err(Refusal::Fault(fault)) => Ok(fault.code),
+        Err(Refusal::Fault(fault)) => Ok(fault.code.number()),
         Err(Refusal::Memory(e)) => Err(Refusal::Memory(e)),
     }
 }

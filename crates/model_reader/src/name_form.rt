@@ -3,12 +3,14 @@ ghost use Rattle.std.specs.Prelude.{◌≡◌};
 ghost use Rattle.std.specs.List.{list_all};
 ghost use Rattle.prod_model.specs.Names.{is_name, is_letter, is_digit, is_name_byte, begins_with_letter};
 
+use prod_model::limits::MOST_NAME_BYTES;
+
 /// Whether it is a letter, and then letters, digits, `_` and `-`, at most 32 bytes in all.
 #[tactic(auto, unfolding(prod_model::specs::Names::is_name))]
 pub fn is_name(bytes: &[u8]) -> bool
     ensures { result ≡ is_name bytes.now }
 {
-    bytes.len() <= 32 && begins_with_letter(bytes) && are_name_bytes(bytes)
+    bytes.len() <= MOST_NAME_BYTES && begins_with_letter(bytes) && are_name_bytes(bytes)
 }
 
 fn begins_with_letter(bytes: &[u8]) -> bool

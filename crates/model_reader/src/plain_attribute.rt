@@ -7,14 +7,12 @@ ghost use Rattle.model_reader.specs.Files.{all_of};
 ghost use Rattle.model_reader.specs.PlainFile.{plain_range, plain_attribute};
 
 use crate::members::{has_only, list_of, text_at, two_of, whole_number};
-use crate::name::is_name;
+use crate::name_form::is_name;
 use crate::unread::Unread;
+use prod_model::limits::FARTHEST_END;
 use prod_model::{AttrDecl, Domain, Items, Name};
 use serde_json::Value;
 use std::alloc::Global;
-
-/// How far an end of a range may be from 0.
-const FARTHEST_END: i64 = 1_000_000;
 
 fn is_end(n: i64) -> bool
     ensures { result ≡ is_within farthest_end n }
@@ -56,9 +54,9 @@ fn plain_attribute(alloc: Global, value: &Value) -> Result<AttrDecl, Unread>
 }
 
 /// The attributes, in the order of the list.
-
 pub fn plain_attributes(alloc: Global, list: &[Value]) -> Result<Items<AttrDecl>, Unread>
-    ensures value { IfOk result (λ attributes. all_of plain_attribute (map view list.now) ≡ Some attributes) }
+    ensures value { IfOk result
+        (λ attributes. all_of plain_attribute (map view list.now) ≡ Some attributes) }
     ensures other { result ≡ Err Other → all_of plain_attribute (map view list.now) ≡ None }
 {
     let mut attributes = Items::new(alloc);
