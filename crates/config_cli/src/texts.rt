@@ -5,8 +5,8 @@ ghost use Rattle.config_cli.specs.Texts.{refused_text};
 use model_reader::FaultCode;
 use std::alloc::{AllocError, Global};
 
-/// `refused FILE CODE /`, for a fault of the whole document. The fault is told by its number, in two
-/// digits after `F`.
+/// `refused FILE CODE /`, for a fault of the whole document. The fault is told by its number, in
+/// two digits after `F`.
 #[tactic(auto, unfolding(crate::specs::Texts::refused_text))]
 pub fn refused_text(alloc: Global, file: &str, code: FaultCode) -> Result<Vec<u8>, AllocError>
     ensures { IfOk result (λ text. text.items ≡ refused_text file.now code) }
