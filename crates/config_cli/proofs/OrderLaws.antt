@@ -3,7 +3,8 @@ use Rattle.std.proofs.Common.{◌≡◌, Bool, true, false, List, [], ◌∷◌,
 use Rattle.std.specs.Prelude.{Option, Some, None, ◌&&◌, nat_le, codes}
 use Rattle.std.specs.Option.{option_map}
 use Rattle.std.specs.List.{list_all}
-use Rattle.std.proofs.lemmas.Option.{none-some}
+use Rattle.std.proofs.lemmas.Option.{none-some, same_Some}
+use Rattle.std.proofs.lemmas.Bool.{and_parts, and_from}
 use Rattle.serde_json.specs.Data.{Data}
 use Rattle.serde_json.specs.Find.{get}
 use Rattle.prod_model.specs.declared.model.Model.{Model}
@@ -19,7 +20,7 @@ use Rattle.prod_model.specs.Valid.{IsValid, IsValidOrder}
 use Rattle.model_reader.specs.Plain.{is_plain, is_plain_side}
 use Rattle.model_reader.specs.Files.{◌>>=◌, has_only, text_at, list_at, all_of}
 use Rattle.model_reader.specs.PlainFile.{plain_side}
-use Rattle.model_reader.proofs.StepLaws.{first_holds, second_holds, both_hold, some_same, provided_test, provided_value, mapped, found_then, all_of_pass, list_all_by}
+use Rattle.model_reader.proofs.StepLaws.{provided_test, provided_value, mapped, found_then, all_of_pass, list_all_by}
 use Rattle.model_reader.proofs.SideLaws.{IsSide, side}
 use Rattle.model_reader.proofs.PlainLaws.{attributes_at_plain, sound_attributes, root_is_first}
 use Rattle.config_cli.specs.PlainOrder.{plain_aim, plain_criterion, plain_order, attributes_declared}
@@ -55,11 +56,11 @@ module _ (m : Model) (plain : is_plain m ≡ true) (valid : IsValid m) where
       let made : Criterion = record { name = name.value; maximise = aim.value.0; value = aim.value.1 } in
       let value = side_of_aim d aim.value aim.found in
       let shallow = nat_le (nesting aim.value.1) Limits.most_nesting in
-      let number_at_first = both_hold shallow (is_number (bounds_at m aim.value.1 0)) (ap (λ n. nat_le n Limits.most_nesting) value.flat) value.number_ in
+      let number_at_first = and_from shallow (is_number (bounds_at m aim.value.1 0)) (ap (λ n. nat_le n Limits.most_nesting) value.flat) value.number_ in
       let number_at_root = ap (λ t. is_number_at m t aim.value.1) (root_is_first m plain valid) ∙ number_at_first in
-      rw (← some_same made r (provided_value (is_name name.value) _ r aim.then_))
-      (both_hold (is_name name.value && is_plain_side (out-Expr aim.value.1)) (is_number_at m m.root aim.value.1)
-      (both_hold (is_name name.value) (is_plain_side (out-Expr aim.value.1)) (provided_test (is_name name.value) _ r aim.then_) value.plain)
+      rw (← same_Some made r (provided_value (is_name name.value) _ r aim.then_))
+      (and_from (is_name name.value && is_plain_side (out-Expr aim.value.1)) (is_number_at m m.root aim.value.1)
+      (and_from (is_name name.value) (is_plain_side (out-Expr aim.value.1)) (provided_test (is_name name.value) _ r aim.then_) value.plain)
       number_at_root)
 
   -- no requests, and a few right criteria of different names
@@ -85,28 +86,28 @@ module _ (m : Model) (plain : is_plain m ≡ true) (valid : IsValid m) where
       let made : Order = record { requests = []; criteria = criteria.value } in
       record {
         criteria = criteria.value;
-        is = sym (some_same made o (provided_value (begins && few && distinct) _ o criteria.then_));
-        few = second_holds begins few (first_holds (begins && few) distinct tests);
-        distinct = second_holds (begins && few) distinct tests;
+        is = sym (same_Some made o (provided_value (begins && few && distinct) _ o criteria.then_));
+        few = (and_parts begins few (and_parts (begins && few) distinct tests).0).1;
+        distinct = (and_parts (begins && few) distinct tests).1;
         right = all_of_pass (plain_criterion (attributes_declared m)) is_right_criterion criterion_is_right listed.value criteria.value listed.then_;
       }
 
   module _ (criteria : List Criterion) (right : list_all is_right_criterion criteria ≡ true) where
     all_named : list_all (λ r. is_name r.name) criteria ≡ true
     all_named = list_all_by is_right_criterion (λ r. is_name r.name)
-        (λ r h. first_holds (is_name r.name) (is_plain_side (out-Expr r.value))
-        (first_holds (is_name r.name && is_plain_side (out-Expr r.value)) (is_number_at m m.root r.value) h))
+        (λ r h. (and_parts (is_name r.name) (is_plain_side (out-Expr r.value))
+        (and_parts (is_name r.name && is_plain_side (out-Expr r.value)) (is_number_at m m.root r.value) h).0).0)
         criteria right
 
     all_plain : list_all (λ r. is_plain_side (out-Expr r.value)) criteria ≡ true
     all_plain = list_all_by is_right_criterion (λ r. is_plain_side (out-Expr r.value))
-        (λ r h. second_holds (is_name r.name) (is_plain_side (out-Expr r.value))
-        (first_holds (is_name r.name && is_plain_side (out-Expr r.value)) (is_number_at m m.root r.value) h))
+        (λ r h. (and_parts (is_name r.name) (is_plain_side (out-Expr r.value))
+        (and_parts (is_name r.name && is_plain_side (out-Expr r.value)) (is_number_at m m.root r.value) h).0).1)
         criteria right
 
     all_numbers : list_all (λ r. is_number_at m m.root r.value) criteria ≡ true
     all_numbers = list_all_by is_right_criterion (λ r. is_number_at m m.root r.value)
-        (λ r h. second_holds (is_name r.name && is_plain_side (out-Expr r.value)) (is_number_at m m.root r.value) h)
+        (λ r h. (and_parts (is_name r.name && is_plain_side (out-Expr r.value)) (is_number_at m m.root r.value) h).1)
         criteria right
 
   pub plain_order_IsValidOrder : (d : Data) (o : Order) → plain_order (attributes_declared m) d ≡ Some o → IsValidOrder m o

@@ -3,6 +3,7 @@ use Rattle.std.proofs.Common.{◌≡◌, ℕ, ◌≤◌, true, List, [], ◌∷�
 use Rattle.std.proofs.lemmas.Bool.Decides.{nat_tests}
 use Rattle.std.specs.Prelude.{Option, Some, None, ◌&&◌, ◌==◌, nat_le, nat_lt, is_none}
 use Rattle.std.specs.List.{list_all}
+use Rattle.std.proofs.lemmas.Bool.{and_parts, false≢true}
 use Rattle.prod_model.specs.declared.model.Model.{Model}
 use Rattle.prod_model.specs.declared.model.TypeDecl.{TypeDecl}
 use Rattle.prod_model.specs.declared.model.AttrDecl.{AttrDecl}
@@ -17,7 +18,7 @@ use Rattle.prod_model.specs.Taxonomy.{attributes_at, ports_of, ports_at, tables_
 use Rattle.prod_model.specs.Valid.{IsValid, has_room, has_ends, is_pair, has_distinct_names, has_numbers_in_limits, has_known_types}
 use Rattle.model_reader.specs.Plain.{is_range, is_plain, attributes_declared, is_plain_type, has_one}
 use Rattle.model_reader.specs.steps.PlainTable.{row_from}
-use Rattle.model_reader.proofs.StepLaws.{not_false, first_holds, second_holds, list_all_both}
+use Rattle.model_reader.proofs.StepLaws.{list_all_both}
 use Rattle.model_reader.proofs.RowLaws.{length_row_from, attributes_of_alone}
 use Rattle.model_reader.proofs.SideLaws.{is_sound}
 use Rattle.model_reader.proofs.PlainParts.{type_of}
@@ -31,33 +32,33 @@ pub record IsOnePlain (types : List TypeDecl) : Type 0 where
 
 no_parent : (parent : Option ℕ) → is_none parent ≡ true → parent ≡ None
 no_parent None h = refl
-no_parent (Some p) h = not_false h
+no_parent (Some p) h = absurd (false≢true h)
 
 no_ports : (ports : List PortDecl) → (length ports == 0) ≡ true → ports ≡ []
 no_ports [] h = refl
 no_ports (p ∷ ps) h = absurd (grind (arith, nat_tests, h))
 
 one_plain : (types : List TypeDecl) → has_one is_plain_type types ≡ true → IsOnePlain types
-one_plain [] h = not_false h
+one_plain [] h = absurd (false≢true h)
 one_plain (t ∷ []) h =
     let no_parent_or_ports = is_none t.parent && (length t.ports == 0) in
-    let alone = first_holds no_parent_or_ports (list_all (λ a. is_range a.domain) t.attributes) h in
+    let alone = (and_parts no_parent_or_ports (list_all (λ a. is_range a.domain) t.attributes) h).0 in
     record {
       name = t.name;
       attributes = t.attributes;
       is =
-          ap (λ (p : Option ℕ). record { name = t.name; parent = p; attributes = t.attributes; ports = t.ports } ∷ []) (no_parent t.parent (first_holds (is_none t.parent) (length t.ports == 0) alone))
-          ∙ ap (λ (ps : List PortDecl). record { name = t.name; parent = None; attributes = t.attributes; ports = ps } ∷ []) (no_ports t.ports (second_holds (is_none t.parent) (length t.ports == 0) alone));
-      ranged = second_holds no_parent_or_ports (list_all (λ a. is_range a.domain) t.attributes) h;
+          ap (λ (p : Option ℕ). record { name = t.name; parent = p; attributes = t.attributes; ports = t.ports } ∷ []) (no_parent t.parent (and_parts (is_none t.parent) (length t.ports == 0) alone).0)
+          ∙ ap (λ (ps : List PortDecl). record { name = t.name; parent = None; attributes = t.attributes; ports = ps } ∷ []) (no_ports t.ports (and_parts (is_none t.parent) (length t.ports == 0) alone).1);
+      ranged = (and_parts no_parent_or_ports (list_all (λ a. is_range a.domain) t.attributes) h).1;
     }
-one_plain (t ∷ u ∷ ts) h = not_false h
+one_plain (t ∷ u ∷ ts) h = absurd (false≢true h)
 
 module _ (m : Model) where
   pub types_of_plain : is_plain m ≡ true → IsOnePlain m.types
   unfolding is_plain
   types_of_plain h =
       let one = has_one is_plain_type m.types in
-      one_plain m.types (first_holds one (length m.bounds == 0) (first_holds (one && (length m.bounds == 0)) _ h))
+      one_plain m.types (and_parts one (length m.bounds == 0) (and_parts (one && (length m.bounds == 0)) _ h).0).0
 
   declared_by : (p : IsOnePlain m.types) → attributes_declared m ≡ p.attributes
   declared_by p = rw p.is refl
@@ -89,7 +90,7 @@ module _ (m : Model) where
         let row = attributes_at written 0 in
         let enough = nat_le (length row) 32 in
         let ports = nat_le (length (ports_at written 0)) 16 in
-        let few = first_holds enough ports (first_holds (enough && ports) true valid_written.declared.taxonomy.room) in
+        let few = (and_parts enough ports (and_parts (enough && ports) true valid_written.declared.taxonomy.room).0).0 in
         let long = ap length (attributes_of_alone p.name p.attributes) ∙ length_row_from 0 p.attributes in
         grind (arith, nat_tests, ap (λ n. nat_le n 32) (sym long) ∙ few)
 
@@ -99,16 +100,16 @@ module _ (m : Model) where
         let names = map (λ (a : AttrDecl). a.name) p.attributes in
         let words = list_all (λ (a : AttrDecl). is_distinct (words_of a.domain)) p.attributes in
         let rules = is_distinct (map (λ (r : Rule). r.name) m.rules) in
-        let of_type = second_holds rules (is_distinct (names ++ []) && words && true) valid_written.declared.formed.distinct_names in
-        ap is_distinct (sym (append-nil names)) ∙ first_holds (is_distinct (names ++ [])) words (first_holds (is_distinct (names ++ []) && words) true of_type)
+        let of_type = (and_parts rules (is_distinct (names ++ []) && words && true) valid_written.declared.formed.distinct_names).1 in
+        ap is_distinct (sym (append-nil names)) ∙ (and_parts (is_distinct (names ++ [])) words (and_parts (is_distinct (names ++ []) && words) true of_type).0).0
 
     sound_written : list_all (λ a. is_sound a.domain) p.attributes ≡ true
     unfolding has_numbers_in_limits written
     sound_written =
         let ends = list_all (λ (a : AttrDecl). has_ends a.domain) p.attributes in
         let others = is_between 1 Limits.most_instances m.instances && list_all (λ (b : CountBound). is_pair b.low b.high) m.bounds in
-        let of_type = second_holds others (ends && true && true) valid_written.declared.formed.numbers_in_limits in
-        list_all_both (λ a. is_range a.domain) (λ a. has_ends a.domain) p.attributes p.ranged (first_holds ends true (first_holds (ends && true) true of_type))
+        let of_type = (and_parts others (ends && true && true) valid_written.declared.formed.numbers_in_limits).1 in
+        list_all_both (λ a. is_range a.domain) (λ a. has_ends a.domain) p.attributes p.ranged (and_parts ends true (and_parts (ends && true) true of_type).0).0
 
     root_written : m.root ≡ 0
     unfolding has_known_types written
@@ -116,7 +117,7 @@ module _ (m : Model) where
         let bounds = list_all (λ (b : CountBound). is_type written b.kind) m.bounds in
         let rules = list_all (λ (r : Rule). is_type written r.kind) m.rules in
         let root = nat_lt m.root 1 in
-        grind (arith, nat_tests, first_holds root bounds (first_holds (root && bounds) rules valid_written.declared.known_types))
+        grind (arith, nat_tests, (and_parts root bounds (and_parts (root && bounds) rules valid_written.declared.known_types).0).0)
 
 module _ (m : Model) (plain : is_plain m ≡ true) (valid : IsValid m) where
   pub few_attributes : length (attributes_declared m) ≤ 32

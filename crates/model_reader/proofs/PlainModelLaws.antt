@@ -1,8 +1,9 @@
 -- The model that the value of a plain file stands for: one type without parent, and rules right at it.
 use Rattle.std.proofs.Common.{◌≡◌, ℕ, ℤ, pos, negsuc, true, List, [], ◌∷◌, length, refl, sym, ap, ◌∙◌}
-use Rattle.std.proofs.lemmas.Option.{none-some}
+use Rattle.std.proofs.lemmas.Option.{none-some, same_Some}
 use Rattle.std.specs.Prelude.{Some, ◌&&◌, ◌==◌, codes}
 use Rattle.std.specs.List.{list_all}
+use Rattle.std.proofs.lemmas.Bool.{and_parts}
 use Rattle.serde_json.specs.Data.{Data}
 use Rattle.serde_json.specs.Find.{get}
 use Rattle.prod_model.specs.declared.model.Model.{Model}
@@ -16,7 +17,7 @@ use Rattle.prod_model.specs.Taxonomy.{ports_of, attributes_at, tables_of}
 use Rattle.model_reader.specs.steps.PlainTable.{row_from}
 use Rattle.model_reader.specs.Files.{◌>>=◌, has_only, text_at, whole_number, list_of, list_at, one_of}
 use Rattle.model_reader.specs.PlainFile.{plain_type, plain_rules, instances_of, plain_model}
-use Rattle.model_reader.proofs.StepLaws.{second_holds, some_same, provided_test, provided_value, found_then, list_all_by}
+use Rattle.model_reader.proofs.StepLaws.{provided_test, provided_value, found_then, list_all_by}
 use Rattle.model_reader.proofs.SideLaws.{is_sound}
 use Rattle.model_reader.proofs.RowLaws.{attributes_of_alone}
 use Rattle.model_reader.proofs.PlainParts.{is_right, type_of, ArePlainParts, plain_type_of, HasPlainRules, plain_rules_of}
@@ -43,11 +44,11 @@ instances_in_limits : (z : ℤ) (n : ℕ) → instances_of z ≡ Some n → is_b
 unfolding instances_of
 instances_in_limits (pos k) n h =
     let between = is_between 1 Limits.most_instances k in
-    rw (← some_same k n (provided_value between (Some k) n h)) (provided_test between (Some k) n h)
+    rw (← same_Some k n (provided_value between (Some k) n h)) (provided_test between (Some k) n h)
 instances_in_limits (negsuc k) n h = absurd (none-some n h)
 
 pub sound_of_right : (attributes : List AttrDecl) → list_all is_right attributes ≡ true → list_all (λ a. is_sound a.domain) attributes ≡ true
-sound_of_right attributes = list_all_by is_right (λ a. is_sound a.domain) (λ a. second_holds (is_name a.name) (is_sound a.domain)) attributes
+sound_of_right attributes = list_all_by is_right (λ a. is_sound a.domain) (λ a. λ h. (and_parts (is_name a.name) (is_sound a.domain) h).1) attributes
 
 -- ---- what such a model has
 
@@ -80,7 +81,7 @@ plain_model_of d m h =
       attributes = plain.attributes;
       instances = instances.value;
       rules = rules.value;
-      is = sym (some_same made m (provided_value test _ m rules.then_)) ∙ ap (λ u. model_of u instances.value rules.value) plain.is;
+      is = sym (same_Some made m (provided_value test _ m rules.then_)) ∙ ap (λ u. model_of u instances.value rules.value) plain.is;
       parts = plain.parts;
       some_instances = instances_in_limits number.value instances.value number.then_;
       has_rules = plain_rules_of (alone plain.name plain.attributes instances.value rules.value) (type_of plain.name plain.attributes)

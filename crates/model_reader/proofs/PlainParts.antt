@@ -2,6 +2,8 @@
 use Rattle.std.proofs.Common.{◌≡◌, ℕ, Bool, true, List, [], ◌∷◌, map, length, refl, sym}
 use Rattle.std.specs.Prelude.{Some, None, ◌&&◌, ◌==◌, nat_le, codes}
 use Rattle.std.specs.List.{list_all}
+use Rattle.std.proofs.lemmas.Bool.{and_parts, and_from}
+use Rattle.std.proofs.lemmas.Option.{same_Some}
 use Rattle.serde_json.specs.Data.{Data}
 use Rattle.serde_json.specs.Find.{get}
 use Rattle.prod_model.specs.declared.model.Model.{Model}
@@ -20,7 +22,7 @@ use Rattle.model_reader.specs.Plain.{is_plain_comparison}
 use Rattle.model_reader.specs.steps.PlainTable.{row_from}
 use Rattle.model_reader.specs.Files.{◌>>=◌, has_only, text_at, whole_number, list_of, list_at, all_of, two_of}
 use Rattle.model_reader.specs.PlainFile.{plain_range, plain_attribute, plain_type, plain_comparison, plain_rule, plain_rules}
-use Rattle.model_reader.proofs.StepLaws.{first_holds, second_holds, both_hold, some_same, provided_test, provided_value, found_then, all_of_pass}
+use Rattle.model_reader.proofs.StepLaws.{provided_test, provided_value, found_then, all_of_pass}
 use Rattle.model_reader.proofs.SideLaws.{is_sound, comparison_of}
 
 -- ---- the type
@@ -32,7 +34,7 @@ range_is_sound d domain h =
     let low = found_then (whole_number pair.value.0) _ domain pair.then_ in
     let high = found_then (whole_number pair.value.1) _ domain low.then_ in
     let range = Range low.value high.value in
-    rw (← some_same range domain (provided_value (has_ends range) _ domain high.then_)) (provided_test (has_ends range) _ domain high.then_)
+    rw (← same_Some range domain (provided_value (has_ends range) _ domain high.then_)) (provided_test (has_ends range) _ domain high.then_)
 
 -- a name, and a range whose ends are within their limits
 abbrev pub is_right : AttrDecl → Bool
@@ -45,8 +47,8 @@ attribute_is_right d a h =
     let domain = found_then (get (codes "range") d >>= plain_range) _ a name.then_ in
     let range = found_then (get (codes "range") d) plain_range domain.value domain.found in
     let made : AttrDecl = record { name = name.value; domain = domain.value } in
-    rw (← some_same made a (provided_value (is_name name.value) _ a domain.then_))
-    (both_hold (is_name name.value) (is_sound domain.value) (provided_test (is_name name.value) _ a domain.then_)
+    rw (← same_Some made a (provided_value (is_name name.value) _ a domain.then_))
+    (and_from (is_name name.value) (is_sound domain.value) (provided_test (is_name name.value) _ a domain.then_)
     (range_is_sound range.value domain.value range.then_))
 
 -- a type of a name and attributes alone
@@ -77,15 +79,15 @@ plain_type_of d t h =
     let few = nat_le (length attributes.value) Limits.most_attributes_of_type in
     let distinct = is_distinct (map (λ a. a.name) attributes.value) in
     let tests = provided_test (named && no_ports && few && distinct) _ t attributes.then_ in
-    let first_tests = first_holds (named && no_ports && few) distinct tests in
+    let first_tests = (and_parts (named && no_ports && few) distinct tests).0 in
     record {
       name = name.value;
       attributes = attributes.value;
-      is = sym (some_same (type_of name.value attributes.value) t (provided_value (named && no_ports && few && distinct) _ t attributes.then_));
+      is = sym (same_Some (type_of name.value attributes.value) t (provided_value (named && no_ports && few && distinct) _ t attributes.then_));
       parts = record {
-        named = first_holds named no_ports (first_holds (named && no_ports) few first_tests);
-        few = second_holds (named && no_ports) few first_tests;
-        distinct = second_holds (named && no_ports && few) distinct tests;
+        named = (and_parts named no_ports (and_parts (named && no_ports) few first_tests).0).0;
+        few = (and_parts (named && no_ports) few first_tests).1;
+        distinct = (and_parts (named && no_ports && few) distinct tests).1;
         right = all_of_pass plain_attribute is_right attribute_is_right listed.value attributes.value listed.then_;
       };
     }
@@ -113,10 +115,10 @@ module _ (m : Model) (t : TypeDecl) (same : attributes_at m 0 ≡ row_from 0 t.a
       let named = is_name name.value in
       let of_type = same_text of.value t.name in
       let made : Rule = record { name = name.value; kind = 0; holds = holds.value } in
-      rw (← some_same made r (provided_value (named && of_type) _ r holds.then_))
-      (both_hold (named && nat_le 0 0 && is_plain_comparison (out-Expr holds.value)) (is_truth_at m 0 holds.value)
-      (both_hold (named && nat_le 0 0) (is_plain_comparison (out-Expr holds.value))
-      (both_hold named (nat_le 0 0) (first_holds named of_type (provided_test (named && of_type) _ r holds.then_)) refl)
+      rw (← same_Some made r (provided_value (named && of_type) _ r holds.then_))
+      (and_from (named && nat_le 0 0 && is_plain_comparison (out-Expr holds.value)) (is_truth_at m 0 holds.value)
+      (and_from (named && nat_le 0 0) (is_plain_comparison (out-Expr holds.value))
+      (and_from named (nat_le 0 0) (and_parts named of_type (provided_test (named && of_type) _ r holds.then_)).0 refl)
       comparison.plain)
       comparison.truth_)
 
@@ -128,8 +130,8 @@ module _ (m : Model) (t : TypeDecl) (same : attributes_at m 0 ≡ row_from 0 t.a
       let few = nat_le (length found.value) Limits.most_rules in
       let distinct = is_distinct (map (λ r. r.name) found.value) in
       let tests = provided_test (few && distinct) _ rules found.then_ in
-      rw (← some_same found.value rules (provided_value (few && distinct) _ rules found.then_)) record {
-        few = first_holds few distinct tests;
-        distinct = second_holds few distinct tests;
+      rw (← same_Some found.value rules (provided_value (few && distinct) _ rules found.then_)) record {
+        few = (and_parts few distinct tests).0;
+        distinct = (and_parts few distinct tests).1;
         right = all_of_pass (plain_rule t) (is_right_rule m) rule_is_right listed.value found.value listed.then_;
       }

@@ -3,6 +3,7 @@ use Rattle.std.proofs.Common.{◌≡◌, ℕ, ◌+◌, Bool, true, List, [], map
 use Rattle.std.proofs.lemmas.Bool.Decides.{nat_tests}
 use Rattle.std.specs.Prelude.{Some, ◌&&◌, nat_le}
 use Rattle.std.specs.List.{list_all}
+use Rattle.std.proofs.lemmas.Bool.{and_parts, and_from, false≢true}
 use Rattle.serde_json.specs.Data.{Data}
 use Rattle.prod_model.specs.declared.model.Model.{Model}
 use Rattle.prod_model.specs.declared.model.AttrDecl.{AttrDecl}
@@ -19,7 +20,7 @@ use Rattle.prod_model.specs.ExprBounds.{is_truth_at}
 use Rattle.prod_model.specs.Valid.{IsValid, has_few_words, has_ends, has_short_lists, has_formed_names, has_distinct_names, has_numbers_in_limits, has_known_parents_and_targets, has_known_types, has_narrowings, has_room, has_one_bound_each, has_faultless_rules}
 use Rattle.model_reader.specs.Plain.{is_range, is_plain, is_plain_comparison}
 use Rattle.model_reader.specs.PlainFile.{plain_model}
-use Rattle.model_reader.proofs.StepLaws.{not_false, first_holds, second_holds, both_hold, list_all_by, list_all_true}
+use Rattle.model_reader.proofs.StepLaws.{list_all_by, list_all_true}
 use Rattle.model_reader.proofs.SideLaws.{is_sound}
 use Rattle.model_reader.proofs.RowLaws.{length_row_from}
 use Rattle.model_reader.proofs.PlainParts.{is_right, is_right_rule, ArePlainParts, HasPlainRules}
@@ -29,17 +30,17 @@ use Rattle.model_reader.proofs.PlainModelLaws.{alone, attributes_at_alone, plain
 
 range_has_few_words : (domain : Domain) → is_range domain ≡ true → has_few_words domain ≡ true
 range_has_few_words (Range low high) h = refl
-range_has_few_words (Words words) h = not_false h
+range_has_few_words (Words words) h = absurd (false≢true h)
 
 range_has_no_words : (domain : Domain) → is_range domain ≡ true → words_of domain ≡ []
 range_has_no_words (Range low high) h = refl
-range_has_no_words (Words words) h = not_false h
+range_has_no_words (Words words) h = absurd (false≢true h)
 
 is_ranged : (a : AttrDecl) → is_right a ≡ true → is_range a.domain ≡ true
-is_ranged a h = first_holds (is_range a.domain) (has_ends a.domain) (second_holds (is_name a.name) (is_sound a.domain) h)
+is_ranged a h = (and_parts (is_range a.domain) (has_ends a.domain) (and_parts (is_name a.name) (is_sound a.domain) h).1).0
 
 is_ended : (a : AttrDecl) → is_right a ≡ true → has_ends a.domain ≡ true
-is_ended a h = second_holds (is_range a.domain) (has_ends a.domain) (second_holds (is_name a.name) (is_sound a.domain) h)
+is_ended a h = (and_parts (is_range a.domain) (has_ends a.domain) (and_parts (is_name a.name) (is_sound a.domain) h).1).1
 
 module _ (attributes : List AttrDecl) (right : list_all is_right attributes ≡ true) where
   all_few_words : list_all (λ a. has_few_words a.domain) attributes ≡ true
@@ -49,7 +50,7 @@ module _ (attributes : List AttrDecl) (right : list_all is_right attributes ≡ 
   all_named = list_all_by is_right (λ a. is_name a.name && list_all is_word (words_of a.domain)) each attributes right
     where
       each : (a : AttrDecl) → is_right a ≡ true → (is_name a.name && list_all is_word (words_of a.domain)) ≡ true
-      each a h = both_hold (is_name a.name) (list_all is_word (words_of a.domain)) (first_holds (is_name a.name) (is_sound a.domain) h)
+      each a h = and_from (is_name a.name) (list_all is_word (words_of a.domain)) (and_parts (is_name a.name) (is_sound a.domain) h).0
           (ap (list_all is_word) (range_has_no_words a.domain (is_ranged a h)))
 
   all_distinct_words : list_all (λ a. is_distinct (words_of a.domain)) attributes ≡ true
@@ -65,19 +66,19 @@ module _ (attributes : List AttrDecl) (right : list_all is_right attributes ≡ 
 
 module _ (m : Model) (r : Rule) (h : is_right_rule m r ≡ true) where
   rule_named : is_name r.name ≡ true
-  rule_named = first_holds (is_name r.name) (nat_le r.kind 0)
-      (first_holds (is_name r.name && nat_le r.kind 0) (is_plain_comparison (out-Expr r.holds)) (first_holds (is_name r.name && nat_le r.kind 0 && is_plain_comparison (out-Expr r.holds)) (is_truth_at m r.kind r.holds) h))
+  rule_named = (and_parts (is_name r.name) (nat_le r.kind 0)
+      (and_parts (is_name r.name && nat_le r.kind 0) (is_plain_comparison (out-Expr r.holds)) (and_parts (is_name r.name && nat_le r.kind 0 && is_plain_comparison (out-Expr r.holds)) (is_truth_at m r.kind r.holds) h).0).0).0
 
   rule_at_first : nat_le r.kind 0 ≡ true
-  rule_at_first = second_holds (is_name r.name) (nat_le r.kind 0)
-      (first_holds (is_name r.name && nat_le r.kind 0) (is_plain_comparison (out-Expr r.holds)) (first_holds (is_name r.name && nat_le r.kind 0 && is_plain_comparison (out-Expr r.holds)) (is_truth_at m r.kind r.holds) h))
+  rule_at_first = (and_parts (is_name r.name) (nat_le r.kind 0)
+      (and_parts (is_name r.name && nat_le r.kind 0) (is_plain_comparison (out-Expr r.holds)) (and_parts (is_name r.name && nat_le r.kind 0 && is_plain_comparison (out-Expr r.holds)) (is_truth_at m r.kind r.holds) h).0).0).1
 
   rule_plain : is_plain_comparison (out-Expr r.holds) ≡ true
-  rule_plain = second_holds (is_name r.name && nat_le r.kind 0) (is_plain_comparison (out-Expr r.holds))
-      (first_holds (is_name r.name && nat_le r.kind 0 && is_plain_comparison (out-Expr r.holds)) (is_truth_at m r.kind r.holds) h)
+  rule_plain = (and_parts (is_name r.name && nat_le r.kind 0) (is_plain_comparison (out-Expr r.holds))
+      (and_parts (is_name r.name && nat_le r.kind 0 && is_plain_comparison (out-Expr r.holds)) (is_truth_at m r.kind r.holds) h).0).1
 
   rule_true : is_truth_at m r.kind r.holds ≡ true
-  rule_true = second_holds (is_name r.name && nat_le r.kind 0 && is_plain_comparison (out-Expr r.holds)) (is_truth_at m r.kind r.holds) h
+  rule_true = (and_parts (is_name r.name && nat_le r.kind 0 && is_plain_comparison (out-Expr r.holds)) (is_truth_at m r.kind r.holds) h).1
 
 -- ---- the model
 

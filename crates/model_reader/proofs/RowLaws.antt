@@ -4,13 +4,13 @@ use Rattle.std.proofs.lemmas.Bool.Decides.{nat_tests}
 use Rattle.std.proofs.lemmas.Grind.{take_at_read}
 use Rattle.std.specs.Prelude.{Some, None}
 use Rattle.std.specs.List.{filter, find, list_all}
+use Rattle.std.proofs.lemmas.Bool.{and_parts}
 use Rattle.prod_model.specs.declared.model.AttrDecl.{AttrDecl}
 use Rattle.prod_model.specs.declared.model.AttrAt.{AttrAt}
 use Rattle.prod_model.specs.declared.model.Domain.{Domain}
 use Rattle.prod_model.specs.declared.model.TypeDecl.{TypeDecl}
 use Rattle.prod_model.specs.Taxonomy.{made_attribute, new_entries, attributes_of}
 use Rattle.model_reader.specs.steps.PlainTable.{row_from}
-use Rattle.model_reader.proofs.StepLaws.{first_holds, second_holds}
 
 filter_true : {A : Type 0} (xs : List A) → filter (λ x. true) xs ≡ xs
 filter_true [] = refl
@@ -57,13 +57,13 @@ pub found_in : (pass : Domain → Bool) (k : ℕ) (ds : List AttrDecl) (id : ℕ
     IsFoundIn (row_from k ds) id pass
 found_in pass k [] id each from below = absurd (omega arith)
 found_in pass k (d ∷ ds) id each from below =
-    here_or_later (k == id) refl (λ later. found_in pass (k + 1) ds id (second_holds (pass d.domain) (list_all (λ e. pass e.domain) ds) each) later (omega arith))
+    here_or_later (k == id) refl (λ later. found_in pass (k + 1) ds id (and_parts (pass d.domain) (list_all (λ e. pass e.domain) ds) each).1 later (omega arith))
   where
     here_or_later : (b : Bool) → (k == id) ≡ b → (k + 1 ≤ id → IsFoundIn (row_from (k + 1) ds) id pass) → IsFoundIn (row_from k (d ∷ ds)) id pass
     here_or_later true e rest = record {
       attribute = made_attribute k d;
       found = rw e refl;
-      passes = first_holds (pass d.domain) (list_all (λ e. pass e.domain) ds) each;
+      passes = (and_parts (pass d.domain) (list_all (λ e. pass e.domain) ds) each).0;
     }
     here_or_later false e rest =
         let later = rest (grind (arith, nat_tests, e)) in

@@ -1,11 +1,12 @@
 -- What the sides and comparisons of a plain file are at the type: numbers and truths without fault.
 use Rattle.std.proofs.Common.{◌≡◌, ℕ, ℤ, ◌+◌, ◌<◌, Bool, true, List, [], ◌∷◌, length, refl, sym, ap, ◌∙◌, arith, max}
 use Rattle.std.proofs.lemmas.Bool.Decides.{nat_tests}
-use Rattle.std.proofs.lemmas.Option.{none-some}
+use Rattle.std.proofs.lemmas.Option.{none-some, same_Some}
 use Rattle.std.proofs.lemmas.List.Quantifiers.{position-Some}
 use Rattle.std.specs.Prelude.{◌==◌, Option, Some, None, ◌&&◌, int_le, codes}
 use Rattle.std.specs.Option.{option_map_or, option_and_then}
 use Rattle.std.specs.List.{list_all, find}
+use Rattle.std.proofs.lemmas.Bool.{and_parts, and_from, false≢true}
 use Rattle.serde_json.specs.Data.{Data, Num as JsonNumber}
 use Rattle.serde_json.specs.Find.{as_str, as_number, as_i64}
 use Rattle.prod_model.specs.declared.model.Model.{Model}
@@ -31,7 +32,7 @@ use Rattle.model_reader.specs.Plain.{is_range, is_plain_side, is_plain_compariso
 use Rattle.model_reader.specs.steps.PlainTable.{row_from}
 use Rattle.model_reader.specs.Files.{◌>>=◌, list_of, two_of, three_of}
 use Rattle.model_reader.specs.PlainFile.{attribute_named, plain_attr, plain_number, plain_side, relation_of, plain_comparison}
-use Rattle.model_reader.proofs.StepLaws.{not_false, first_holds, second_holds, both_hold, some_same, provided_test, provided_value, found_then}
+use Rattle.model_reader.proofs.StepLaws.{provided_test, provided_value, found_then}
 use Rattle.model_reader.proofs.RowLaws.{found_in}
 
 -- ---- the laws of the three forms
@@ -63,10 +64,10 @@ nesting_Cmp r x y = ap nesting (sym (v.rolls-Cmp r x y)) ∙ fold-roll-Expr ℕ 
 
 truth_of_numbers : (x y : Option Bounds) → is_number x ≡ true → is_number y ≡ true → is_truth (comparison x y) ≡ true
 truth_of_numbers (Some (number a b)) (Some (number c d)) p q = refl
-truth_of_numbers (Some (number a b)) (Some truth) p q = not_false q
-truth_of_numbers (Some (number a b)) None p q = not_false q
-truth_of_numbers (Some truth) y p q = not_false p
-truth_of_numbers None y p q = not_false p
+truth_of_numbers (Some (number a b)) (Some truth) p q = absurd (false≢true q)
+truth_of_numbers (Some (number a b)) None p q = absurd (false≢true q)
+truth_of_numbers (Some truth) y p q = absurd (false≢true p)
+truth_of_numbers None y p q = absurd (false≢true p)
 
 -- ---- sides
 
@@ -88,11 +89,11 @@ number_between low high l h = rw (l, h) refl
 
 number_in_range : (id : ℕ) (domain : Domain) → is_sound domain ≡ true → is_number (of_range bounded (record { id = id; domain = domain })) ≡ true
 number_in_range id (Range low high) h =
-    let ends = first_holds (is_within farthest_end low && is_within farthest_end high) (int_le low high) h in
+    let ends = (and_parts (is_within farthest_end low && is_within farthest_end high) (int_le low high) h).0 in
     number_between low high
-    (within_bound low (first_holds (is_within farthest_end low) (is_within farthest_end high) ends))
-    (within_bound high (second_holds (is_within farthest_end low) (is_within farthest_end high) ends))
-number_in_range id (Words words) h = not_false h
+    (within_bound low (and_parts (is_within farthest_end low) (is_within farthest_end high) ends).0)
+    (within_bound high (and_parts (is_within farthest_end low) (is_within farthest_end high) ends).1)
+number_in_range id (Words words) h = absurd (false≢true h)
 
 number_found : (f : AttrAt → Option Bounds) (o : Option AttrAt) (a : AttrAt) → o ≡ Some a → is_number (f a) ≡ true → is_number (option_and_then f o) ≡ true
 number_found f o a found passes = rw found passes
@@ -101,7 +102,7 @@ module _ (m : Model) (attributes : List AttrDecl) (same : attributes_at m 0 ≡ 
   side_of_number : (n : ℤ) (x : Expr) → plain_number n ≡ Some x → IsSide m x
   side_of_number n x h =
       let within = provided_test (is_within farthest_bound n) (Some (v.Num n)) x h in
-      let is_num = some_same (v.Num n) x (provided_value (is_within farthest_bound n) (Some (v.Num n)) x h) in
+      let is_num = same_Some (v.Num n) x (provided_value (is_within farthest_bound n) (Some (v.Num n)) x h) in
       rw (← is_num) record {
         plain = ap is_plain_side (v.outs-Num n);
         flat = nesting_Num n;
@@ -131,7 +132,7 @@ module _ (m : Model) (attributes : List AttrDecl) (same : attributes_at m 0 ≡ 
       let operator = found_then (as_str pair.value.0) _ x pair.then_ in
       let name = found_then (as_str pair.value.1) _ x operator.then_ in
       let id = found_then (attribute_named attributes name.value) _ x name.then_ in
-      let is_attr = some_same (v.Attr id.value) x (provided_value (same_text operator.value (codes "attr")) _ x id.then_) in
+      let is_attr = same_Some (v.Attr id.value) x (provided_value (same_text operator.value (codes "attr")) _ x id.then_) in
       rw (← is_attr) (side_of_attribute id.value (below name.value id.value id.found))
 
   pub side : (d : Data) (x : Expr) → plain_side attributes d ≡ Some x → IsSide m x
@@ -151,7 +152,7 @@ module _ (m : Model) (attributes : List AttrDecl) (same : attributes_at m 0 ≡ 
 
   of_sides : (r : Relation) (x y : Expr) → IsSide m x → IsSide m y → IsComparison (v.Cmp r x y)
   of_sides r x y left right = record {
-    plain = ap is_plain_comparison (v.outs-Cmp r x y) ∙ both_hold _ _ left.plain right.plain;
+    plain = ap is_plain_comparison (v.outs-Cmp r x y) ∙ and_from _ _ left.plain right.plain;
     truth_ = rw (nesting_Cmp r x y, left.flat, right.flat, bounds_at_Cmp m 0 r x y) (truth_of_numbers (bounds_at m x 0) (bounds_at m y 0) left.number_ right.number_);
   }
 
@@ -162,4 +163,4 @@ module _ (m : Model) (attributes : List AttrDecl) (same : attributes_at m 0 ≡ 
       let relation = found_then (as_str parts.value.0 >>= relation_of) _ e parts.then_ in
       let left = found_then (plain_side attributes parts.value.1) _ e relation.then_ in
       let right = found_then (plain_side attributes parts.value.2) _ e left.then_ in
-      rw (← some_same (v.Cmp relation.value left.value right.value) e right.then_) (of_sides relation.value left.value right.value (side _ left.value left.found) (side _ right.value right.found))
+      rw (← same_Some (v.Cmp relation.value left.value right.value) e right.then_) (of_sides relation.value left.value right.value (side _ left.value left.found) (side _ right.value right.found))

@@ -3,29 +3,12 @@ use Rattle.std.proofs.Common.{◌≡◌, Bool, true, false, List, [], ◌∷◌,
 use Rattle.std.specs.Prelude.{Option, Some, None, ◌&&◌, unwrap_or}
 use Rattle.std.specs.Option.{option_map}
 use Rattle.std.specs.List.{list_all}
-use Rattle.std.proofs.lemmas.Option.{none-some}
-use Rattle.std.proofs.lemmas.Bool.{true≢false}
+use Rattle.std.proofs.lemmas.Option.{none-some, same_Some}
+use Rattle.std.proofs.lemmas.Bool.{and_parts, and_from}
 use Rattle.serde_json.specs.Data.{Data}
 use Rattle.model_reader.specs.Files.{◌>>=◌, provided, all_of}
 
-pub not_false : {A : Type 0} → false ≡ true → A
-not_false h = absurd (true≢false (sym h))
-
-pub first_holds : (a b : Bool) → (a && b) ≡ true → a ≡ true
-first_holds true b h = refl
-first_holds false b h = not_false h
-
-pub second_holds : (a b : Bool) → (a && b) ≡ true → b ≡ true
-second_holds true b h = h
-second_holds false b h = not_false h
-
-pub both_hold : (a b : Bool) → a ≡ true → b ≡ true → (a && b) ≡ true
-both_hold a b p q = rw (p, q) refl
-
 module _ {A : Type 0} where
-  pub some_same : (a b : A) → Some a ≡ Some b → a ≡ b
-  some_same a b h = ap (λ o. unwrap_or o a) h
-
   pub provided_test : (test : Bool) (o : Option A) (a : A) → provided test o ≡ Some a → test ≡ true
   provided_test true o a h = refl
   provided_test false o a h = absurd (none-some a h)
@@ -57,14 +40,14 @@ module _ {A : Type 0} where
   pub list_all_by : (p q : A → Bool) → ((a : A) → p a ≡ true → q a ≡ true) → (xs : List A) → list_all p xs ≡ true → list_all q xs ≡ true
   list_all_by p q imply [] h = refl
   list_all_by p q imply (a ∷ xs) h =
-      both_hold (q a) (list_all q xs) (imply a (first_holds (p a) (list_all p xs) h)) (list_all_by p q imply xs (second_holds (p a) (list_all p xs) h))
+      and_from (q a) (list_all q xs) (imply a (and_parts (p a) (list_all p xs) h).0) (list_all_by p q imply xs (and_parts (p a) (list_all p xs) h).1)
 
   pub list_all_both : (p q : A → Bool) (xs : List A) → list_all p xs ≡ true → list_all q xs ≡ true → list_all (λ a. p a && q a) xs ≡ true
   list_all_both p q [] g h = refl
   list_all_both p q (a ∷ xs) g h =
-      both_hold (p a && q a) (list_all (λ b. p b && q b) xs)
-      (both_hold (p a) (q a) (first_holds (p a) (list_all p xs) g) (first_holds (q a) (list_all q xs) h))
-      (list_all_both p q xs (second_holds (p a) (list_all p xs) g) (second_holds (q a) (list_all q xs) h))
+      and_from (p a && q a) (list_all (λ b. p b && q b) xs)
+      (and_from (p a) (q a) (and_parts (p a) (list_all p xs) g).0 (and_parts (q a) (list_all q xs) h).0)
+      (list_all_both p q xs (and_parts (p a) (list_all p xs) g).1 (and_parts (q a) (list_all q xs) h).1)
 
   pub list_all_true : (xs : List A) → list_all (λ a. true) xs ≡ true
   list_all_true [] = refl
@@ -73,9 +56,9 @@ module _ {A : Type 0} where
 -- what each value is read as passes the test
 pub all_of_pass : {A : Type 0} (reading : Data → Option A) (p : A → Bool) → ((d : Data) (a : A) → reading d ≡ Some a → p a ≡ true) →
     (ds : List Data) (xs : List A) → all_of reading ds ≡ Some xs → list_all p xs ≡ true
-all_of_pass reading p each [] xs h = ap (list_all p) (sym (some_same [] xs h))
+all_of_pass reading p each [] xs h = ap (list_all p) (sym (same_Some [] xs h))
 all_of_pass reading p each (d ∷ ds) xs h =
     let head = found_then (reading d) (λ a. option_map (λ more. a ∷ more) (all_of reading ds)) xs h in
     let tail = mapped (all_of reading ds) (λ more. head.value ∷ more) xs head.then_ in
-    ap (list_all p) (sym tail.is) ∙ both_hold (p head.value) (list_all p tail.value) (each d head.value head.found)
+    ap (list_all p) (sym tail.is) ∙ and_from (p head.value) (list_all p tail.value) (each d head.value head.found)
     (all_of_pass reading p each ds tail.value tail.found)
