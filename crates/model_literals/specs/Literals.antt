@@ -26,8 +26,13 @@ attribute_of a = record { name = name_of a.name.now; domain = domain_of a.values
 
 -- the port of that name, with all that is said of it
 abbrev pub port_of : PortLiteral → PortDecl
-port_of p =
-    record { name = name_of p.name.now; kind = p.kind; target = p.target; low = p.low; high = p.high }
+port_of p = record {
+  name = name_of p.name.now;
+  kind = p.kind;
+  target = p.target;
+  low = p.low;
+  high = p.high;
+}
 
 -- the type of that name and parent, with its attributes and ports in order
 abbrev pub type_of : TypeLiteral → TypeDecl

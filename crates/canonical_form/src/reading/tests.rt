@@ -6,6 +6,7 @@ ghost use Rattle.prod_model.specs.declared.model.PortKind.TheVariants.{Part};
 use super::read_answer;
 use crate::answer_text::write_answer;
 use crate::fault::AnswerRefusal;
+use model_literals::{attribute_of, one, port, port_of, range, two, words};
 use prod_model::{
     AttrAt, AttrDecl, Domain, Items, Model, Name, PortAt, PortDecl, PortKind, Problem, Tables,
     TypeDecl,
@@ -33,31 +34,19 @@ fn bike_attributes(alloc: Global) -> Result<Items<AttrDecl>, AllocError>
         ≡ record { name = codes "price"; domain = Range (pos 0) (pos 99) }
         ∷ record { name = codes "color"; domain = Words (codes "red" ∷ codes "blue" ∷ []) } ∷ []) }
 {
-    let mut attributes = Items::new(alloc);
-    attributes.push(AttrDecl {
-        name: Name::from_bytes(alloc, b"price")?,
-        domain: prices(),
-    })?;
-    attributes.push(AttrDecl {
-        name: Name::from_bytes(alloc, b"color")?,
-        domain: colors(alloc)?,
-    })?;
-    Ok(attributes)
+    let price = attribute_of(alloc, &range(b"price", 0, 99))?;
+    let color = attribute_of(alloc, &words(b"color", &[b"red", b"blue"]))?;
+    two(alloc, price, color)
 }
 
 fn bike_ports(alloc: Global) -> Result<Items<PortDecl>, AllocError>
     ensures { IfOk result (λ ds. ds
         ≡ record { name = codes "left"; kind = Part; target = 2; low = 0; high = 9 } ∷ []) }
 {
-    let mut ports = Items::new(alloc);
-    ports.push(PortDecl {
-        name: Name::from_bytes(alloc, b"left")?,
-        kind: PortKind::Part,
-        target: 2,
-        low: 0,
-        high: 9,
-    })?;
-    Ok(ports)
+    one(
+        alloc,
+        port_of(alloc, &port(b"left", PortKind::Part, 2, 0, 9))?,
+    )
 }
 
 /// `Any` over `Bike`, which has all attributes and ports, and `Wheel`.

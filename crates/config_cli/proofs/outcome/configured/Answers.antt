@@ -13,14 +13,14 @@ pub returns-in-Err-open_order-clause-result : goal.returns-in-Err-open_order-cla
 returns-in-Err-open_order-clause-result c =
     IfOk-weaker c.refused-in-Err-open_order.result _ _
     (λ a line m o shows_m shows_o.
-        order_refused _ m o c.in-Err-open_order.refusal _ _ (c.in-Ok.ensures.model m shows_m)
-        (c.in-Err-open_order.ensures.fault o shows_o) line)
+    order_refused _ m o c.in-Err-open_order.refusal _ _ (c.in-Ok.ensures.model m shows_m)
+    (c.in-Err-open_order.ensures.fault o shows_o) line)
     c.refused-in-Err-open_order.ensures.line
 
 pub returns-clause-result : goal.returns-clause-result
 returns-clause-result c =
     IfOk-weaker c.preferred_outcome.result _ _
     (λ a is m o shows_m shows_o.
-        preferred_outcome c.in-Ok.problem (c.in-Ok.ensures.model m shows_m)
-        c.in-Ok-open_order.order (c.in-Ok-open_order.ensures.order o shows_o) is)
+    preferred_outcome c.in-Ok.problem (c.in-Ok.ensures.model m shows_m)
+    c.in-Ok-open_order.order (c.in-Ok-open_order.ensures.order o shows_o) is)
     c.preferred_outcome.ensures.outcome
