@@ -1,11 +1,10 @@
 -- A shaped configuration of a declared model can be spelled.
-use Rattle.std.proofs.Common.{◌≡◌, ℕ, suc, ◌+◌, ◌≤◌, Bool, ◌&&◌, List, [], ◌∷◌, map, reverse, length, Option, Some, None, refl, sym, ◌∙◌, subst, inl, inr, lt-ltb, arith}
-use Rattle.std.specs.Prelude.{slice_get, IsTrue, ℤ, pos, negsuc, not, nat_lt, int_le, neg_ℤ}
-use Rattle.std.specs.Option.{option_map_or}
-use Rattle.std.specs.List.{list_all, list_any, find, flat_map, fold}
+use Rattle.std.proofs.Common.{ℕ, ◌≤◌, ◌&&◌, List, length, sym, inl, inr, lt-ltb, arith}
+use Rattle.std.specs.Prelude.{slice_get, IsTrue, ℤ, pos, negsuc, nat_lt, int_le, neg_ℤ}
+use Rattle.std.specs.List.{list_all, list_any}
 use Rattle.std.proofs.lemmas.Bool.{and_parts, and_from}
 use Rattle.std.proofs.lemmas.Int.{ints}
-use Rattle.std.proofs.lemmas.Option.{none-some, slice_get_within, slice_get_cases}
+use Rattle.std.proofs.lemmas.Option.{slice_get_within, slice_get_cases}
 use lib.Pointwise.{pointwise}
 use Rattle.prod_model.specs.declared.model.Model.{Model}
 use Rattle.prod_model.specs.declared.model.AttrAt.{AttrAt}

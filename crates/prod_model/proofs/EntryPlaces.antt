@@ -4,14 +4,13 @@ use Rattle.std.specs.Prelude.{slice_get}
 use Rattle.std.specs.Option.{option_map_or, option_and_then}
 use Rattle.std.specs.List.{flat_map, range_with_len}
 use Rattle.std.proofs.lemmas.Grind.{flat_map-append}
-use Rattle.std.proofs.lemmas.List.Concat.{length-flat_map, flat_map-cons}
+use Rattle.std.proofs.lemmas.List.Concat.{length-flat_map}
 use Rattle.std.proofs.lemmas.Option.{none-some, slice_get_cases}
 use Rattle.base_laws.specs.Places.{IsAt}
 use Rattle.base_laws.proofs.Places.{at_front, at_back, at_either}
 use Rattle.base_laws.proofs.Ranges.{range_split}
-use Rattle.prod_model.specs.declared.model.Model.{Model}
 use Rattle.prod_model.specs.declared.model.TypeDecl.{TypeDecl}
-use Rattle.prod_model.specs.Taxonomy.{declarations_of, new_declarations, all_new_declarations, first_id, made_attribute, made_port, attributes_of, ports_of}
+use Rattle.prod_model.specs.Taxonomy.{new_declarations, all_new_declarations, first_id, made_attribute, made_port, attributes_of, ports_of}
 use Rattle.prod_model.specs.Laws.{extended_attributes, extended_ports, EntriesExtendTheParents, ArePlaces, IdsArePlaces}
 use Rattle.prod_model.proofs.ForestLines.{no_cycle}
 use Rattle.prod_model.proofs.EntryLaws.{entries_of_parent, all_new_split}

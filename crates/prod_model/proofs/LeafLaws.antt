@@ -1,6 +1,6 @@
 -- Under each type of a forest there is a leaf.
-use Rattle.std.proofs.Common.{◌≡◌, ℕ, zero, suc, ◌<◌, ◌≤◌, ◌+◌, Bool, true, false, not, ◌&&◌, ◌==◌, List, [], ◌∷◌, length, Option, Some, None, refl, sym, ap, ◌∙◌, inl, inr, eqb-true, lt-ltb, arith}
-use Rattle.std.specs.Prelude.{slice_get, IsTrue}
+use Rattle.std.proofs.Common.{◌≡◌, ℕ, zero, suc, ◌<◌, ◌≤◌, ◌+◌, Bool, true, false, not, ◌&&◌, ◌==◌, List, [], ◌∷◌, length, Option, Some, None, refl, sym, ap, inl, inr, eqb-true, lt-ltb, arith}
+use Rattle.std.specs.Prelude.{IsTrue}
 use Rattle.std.specs.Option.{option_map_or}
 use Rattle.std.specs.List.{list_any, list_all}
 use Rattle.std.proofs.lemmas.Bool.{false≢true, and_from}
@@ -9,7 +9,7 @@ use Rattle.std.proofs.lemmas.Option.{slice_get_within, slice_get_cases}
 use Rattle.base_laws.specs.Places.{IsAt}
 use Rattle.prod_model.specs.declared.model.Model.{Model}
 use Rattle.prod_model.specs.declared.model.TypeDecl.{TypeDecl}
-use Rattle.prod_model.specs.Forest.{line, is_type, is_a, is_leaf, is_forest}
+use Rattle.prod_model.specs.Forest.{line, is_a, is_leaf, is_forest}
 use Rattle.prod_model.proofs.ForestLines.{HasParent, no_cycle, line_short, line_parent, line_of_parent}
 use Rattle.prod_model.proofs.LineLaws.{is_a_above}
 
