@@ -13,3 +13,4 @@ pub mod OutcomeLaws
 pub mod RunLaws
 pub mod OrderLaws
 pub mod Wishes
+pub mod StatusLaws

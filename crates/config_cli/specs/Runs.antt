@@ -5,6 +5,7 @@ use Rattle.std.specs.declared.alloc.Global.{Global}
 use Rattle.cfg_io.specs.Causes.{Rose}
 use Rattle.cfg_io.specs.Sinks.{TellsWhole, TellsFront}
 use Rattle.config_cli.specs.Commands.{IsAskedFile}
+use Rattle.config_cli.specs.Statuses.{number_of}
 use Rattle.config_cli.specs.declared.status.Status.{Status}
 use Rattle.config_cli.specs.declared.status.Status.TheVariants.{ReadFailed, WriteFailed, OutOfMemory}
 
@@ -12,17 +13,17 @@ use Rattle.config_cli.specs.declared.status.Status.TheVariants.{ReadFailed, Writ
 abbrev pub texts : List (String Global) → List (List ℕ)
 texts words = map string_bytes words
 
--- The sink has just the text of the result more than before, and the status is its status. Or the
--- write failed, and the sink has a part of that text more, from its front on. Or a read failed, or
--- memory ran out, and nothing was written.
-pub data Writes (IsTheResult : Status → List ℕ → Type 0) (old new : Option (List ℕ))
-    (status : Status) : Type 0 where
-  whole : (text : List ℕ) → IsTheResult status text → TellsWhole old text new
-      → Writes IsTheResult old new status
-  part : (of_status : Status) (text : List ℕ) → IsTheResult of_status text
-      → status ≡ WriteFailed → TellsFront old text new → Writes IsTheResult old new status
-  nothing : (status ≡ ReadFailed) ⊎ (status ≡ OutOfMemory) → new ≡ old
-      → Writes IsTheResult old new status
+-- The sink has just the text of the result more than before, and the number is that of its status.
+-- Or the write failed, and the sink has a part of that text more, from its front on. Or a read
+-- failed, or memory ran out, and nothing was written.
+pub data Writes (IsTheResult : Status → List ℕ → Type 0) (old new : Option (List ℕ)) (number : ℕ)
+    : Type 0 where
+  whole : (status : Status) (text : List ℕ) → IsTheResult status text → number ≡ number_of status
+      → TellsWhole old text new → Writes IsTheResult old new number
+  part : (status : Status) (text : List ℕ) → IsTheResult status text
+      → number ≡ number_of WriteFailed → TellsFront old text new → Writes IsTheResult old new number
+  nothing : (number ≡ number_of ReadFailed) ⊎ (number ≡ number_of OutOfMemory) → new ≡ old
+      → Writes IsTheResult old new number
 
 -- a read of a file that the words ask for has failed
 pub record HasReadFault (words : List (List ℕ)) (before now : List ℕ → ℕ) : Type 0 where

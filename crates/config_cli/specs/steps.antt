@@ -4,3 +4,4 @@ pub mod Walk
 pub mod Words
 pub mod Fetched
 pub mod Calls
+pub mod Leaves

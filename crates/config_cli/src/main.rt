@@ -47,7 +47,7 @@ fn main(rt: HostRuntime) -> ExitCode {
     };
     let mut shelf = DiskShelf::new(rt.alloc(), &rt);
     let mut out = OutSink::new(io::writer(&rt));
-    ExitCode::from(run_alone(rt.alloc(), &words, &mut shelf, &mut out).number())
+    ExitCode::from(run_alone(rt.alloc(), &words, &mut shelf, &mut out))
 }
 
 #[cfg(test)]

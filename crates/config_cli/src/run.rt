@@ -1,10 +1,12 @@
 // The run of a command: its files are read, and the text of what they result in is written.
-ghost use Rattle.std.specs.Prelude.{◌≡◌, ◌≢◌, ◌⊎◌, ℕ, ◌≤◌, List, [], IfOk};
+ghost use Rattle.std.specs.Prelude.{◌<◌, ◌≡◌, ◌≢◌, ◌⊎◌, ℕ, ◌≤◌, List, [], IfOk};
 ghost use Rattle.std.specs.Option.{ForSome};
 ghost use Rattle.cfg_io.specs.Causes.{Rose};
 ghost use Rattle.config_cli.specs.Commands.{AsksForNoFile, AsksNothing, IsAskedFile};
 ghost use Rattle.config_cli.specs.Results.{IsResult};
 ghost use Rattle.config_cli.specs.Runs.{HasReadFault, Writes, texts};
+ghost use Rattle.config_cli.specs.Statuses.{number_of};
+ghost use Rattle.config_cli.specs.steps.Leaves.{LeavesAs};
 ghost use Rattle.config_cli.specs.steps.Calls.{IsExactly, IsOfFiles, status_of};
 ghost use Rattle.config_cli.specs.steps.Fetched.{IsFetchAt};
 
@@ -60,7 +62,7 @@ fn fetch<S: Shelf>(shelf: &mut S, name: &str) -> Result<Fetched, Stop>
 
 // Writes the text, and gives its status or that of the write's failure.
 fn say<K: Sink>(out: &mut K, status: Status, text: &[u8]) -> Status
-    ensures written { Writes (IsExactly status text.now)
+    ensures written { LeavesAs (IsExactly status text.now)
         (K.written out.old) (K.written out.new) result }
     ensures status { (result ≡ status)
         ⊎ ((result ≡ Status.WriteFailed) ⊎ (result ≡ Status.OutOfMemory)) }
@@ -88,7 +90,7 @@ fn configure<S: Shelf, K: Sink>(
 ) -> Status
     // What is written, and the status.
     ensures written { ForSome (S.files shelf.old) (λ fs.
-        Writes (IsOfFiles fs model.now order.now) (K.written out.old) (K.written out.new) result) }
+        LeavesAs (IsOfFiles fs model.now order.now) (K.written out.old) (K.written out.new) result) }
     ensures read { result ≡ Status.ReadFailed
         → (Rose (S.faults shelf.old model.now) (S.faults shelf.new model.now))
         ⊎ (Rose (S.faults shelf.old order.now) (S.faults shelf.new order.now)) }
@@ -123,21 +125,8 @@ fn configure<S: Shelf, K: Sink>(
     }
 }
 
-/// Does what the words say, on one worker, and gives the status.
-///
-/// `configure MODEL ORDER` reads the files MODEL and ORDER of the shelf, in this order, and writes
-/// what they result in with one call of `write`, whole:
-///
-/// - `Preferred` and the text of the preferred configuration, where all requests can be met;
-/// - `Conflict` and the preferred conflict, where they can't;
-/// - `Refused` and `refused FILE CODE PLACE`, where a file has a fault: the model's comes before
-///   the order's.
-///
-/// `Usage` and the usage line: the words are none of the accepted forms. `ReadFailed`: a read
-/// failed, and nothing is written. `WriteFailed`: the write failed, and a part of the text may be
-/// written. `OutOfMemory`: memory ran out, and nothing is written. A count of faults of the shelf
-/// rises only with `ReadFailed`, and the sink's only with `WriteFailed`.
-pub fn run_alone<S: Shelf, K: Sink>(
+// The same as `run_alone`, with the status as it is named.
+fn run_words<S: Shelf, K: Sink>(
     alloc: Global,
     words: &[String],
     shelf: &mut S,
@@ -146,9 +135,9 @@ pub fn run_alone<S: Shelf, K: Sink>(
     // What is written is the text of what the words and files result in, and the status is its
     // status.
     ensures result { ForSome (S.files shelf.old) (λ fs.
-        Writes (IsResult (texts words.now) fs) (K.written out.old) (K.written out.new) result) }
+        LeavesAs (IsResult (texts words.now) fs) (K.written out.old) (K.written out.new) result) }
     ensures without_files { AsksForNoFile (texts words.now)
-        → Writes (IsResult (texts words.now) []) (K.written out.old) (K.written out.new) result }
+        → LeavesAs (IsResult (texts words.now) []) (K.written out.old) (K.written out.new) result }
 
     // The statuses, and what causes them.
     ensures answers { result ≢ Status.NoWords }
@@ -174,6 +163,56 @@ pub fn run_alone<S: Shelf, K: Sink>(
         Some((model, order)) => configure(alloc, model, order, shelf, out),
         None => say(out, Status::Usage, USAGE.as_bytes()),
     }
+}
+
+/// Does what the words say, on one worker, and gives the number of the status.
+///
+/// `configure MODEL ORDER` reads the files MODEL and ORDER of the shelf, in this order, and writes
+/// what they result in with one call of `write`, whole:
+///
+/// - `Preferred` and the text of the preferred configuration, where all requests can be met;
+/// - `Conflict` and the preferred conflict, where they can't;
+/// - `Refused` and `refused FILE CODE PLACE`, where a file has a fault: the model's comes before
+///   the order's.
+///
+/// `Usage` and the usage line: the words are none of the accepted forms. `ReadFailed`: a read
+/// failed, and nothing is written. `WriteFailed`: the write failed, and a part of the text may be
+/// written. `OutOfMemory`: memory ran out, and nothing is written. A count of faults of the shelf
+/// rises only with `ReadFailed`, and the sink's only with `WriteFailed`.
+pub fn run_alone<S: Shelf, K: Sink>(
+    alloc: Global,
+    words: &[String],
+    shelf: &mut S,
+    out: &mut K,
+) -> u8
+    // What is written is the text of what the words and files result in, and the number is that of
+    // its status.
+    ensures result { ForSome (S.files shelf.old) (λ fs.
+        Writes (IsResult (texts words.now) fs) (K.written out.old) (K.written out.new) result) }
+    ensures without_files { AsksForNoFile (texts words.now)
+        → Writes (IsResult (texts words.now) []) (K.written out.old) (K.written out.new) result }
+
+    // The statuses, and what causes them.
+    ensures answers { result < number_of Status.NoWords }
+    ensures usage { result ≡ number_of Status.Usage → AsksNothing (texts words.now) }
+    ensures read { result ≡ number_of Status.ReadFailed
+        → HasReadFault (texts words.now) (S.faults shelf.old) (S.faults shelf.new) }
+    ensures write { result ≡ number_of Status.WriteFailed → Rose (K.faults out.old) (K.faults out.new) }
+    ensures nothing { (result ≡ number_of Status.ReadFailed) ⊎ (result ≡ number_of Status.OutOfMemory)
+        → K.written out.new ≡ K.written out.old }
+
+    // What stays.
+    ensures files { S.files shelf.new ≡ S.files shelf.old }
+    ensures others { (n : List ℕ) → ¬ IsAskedFile (texts words.now) n
+        → S.faults shelf.new n ≡ S.faults shelf.old n }
+    ensures reads_uncounted { result ≢ number_of Status.ReadFailed
+        → (n : List ℕ) → S.faults shelf.new n ≡ S.faults shelf.old n }
+    ensures writes_uncounted { result ≢ number_of Status.WriteFailed
+        → K.faults out.new ≡ K.faults out.old }
+    ensures later { (n : List ℕ) → S.faults shelf.old n ≤ S.faults shelf.new n }
+    ensures sink_later { K.faults out.old ≤ K.faults out.new }
+{
+    run_words(alloc, words, shelf, out).number()
 }
 
 #[cfg(test)]

@@ -1,6 +1,6 @@
 use Rattle.std.proofs.Common.{refl, ap}
 use Rattle.std.specs.Prelude.{Err}
-use Rattle.config_cli.specs.Runs.{whole, part}
+use Rattle.config_cli.specs.steps.Leaves.{whole, part}
 use Rattle.config_cli.proofs.run.say.Goals as goal
 
 pub returns-in-Ok-clause-written : goal.returns-in-Ok-clause-written
