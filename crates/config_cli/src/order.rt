@@ -14,12 +14,10 @@ use model_reader::{
     Attributes, Names, Refusal, Unread, attributes_declared, has_only, is_name, list_at,
     plain_side, refusal_of, text_at, value_of,
 };
+use prod_model::limits::MOST_CRITERIA;
 use prod_model::{Criterion, Expr, Items, Name, Order, Problem};
 use serde_json::Value;
 use std::alloc::{AllocError, Global};
-
-/// The most criteria of an order.
-const MOST_CRITERIA: usize = 8;
 
 /// Whether a criterion is maximised, and its value. Just one of the two members stands.
 #[tactic(auto, unfolding(crate::specs::PlainOrder::plain_aim))]
