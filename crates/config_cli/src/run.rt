@@ -90,7 +90,8 @@ fn configure<S: Shelf, K: Sink>(
 ) -> Status
     // What is written, and the status.
     ensures written { ForSome (S.files shelf.old) (λ fs.
-        LeavesAs (IsOfFiles fs model.now order.now) (K.written out.old) (K.written out.new) result) }
+        LeavesAs (IsOfFiles fs model.now order.now) (K.written out.old) (K.written out.new)
+        result) }
     ensures read { result ≡ Status.ReadFailed
         → (Rose (S.faults shelf.old model.now) (S.faults shelf.new model.now))
         ⊎ (Rose (S.faults shelf.old order.now) (S.faults shelf.new order.now)) }
@@ -197,8 +198,10 @@ pub fn run_alone<S: Shelf, K: Sink>(
     ensures usage { result ≡ number_of Status.Usage → AsksNothing (texts words.now) }
     ensures read { result ≡ number_of Status.ReadFailed
         → HasReadFault (texts words.now) (S.faults shelf.old) (S.faults shelf.new) }
-    ensures write { result ≡ number_of Status.WriteFailed → Rose (K.faults out.old) (K.faults out.new) }
-    ensures nothing { (result ≡ number_of Status.ReadFailed) ⊎ (result ≡ number_of Status.OutOfMemory)
+    ensures write { result ≡ number_of Status.WriteFailed
+        → Rose (K.faults out.old) (K.faults out.new) }
+    ensures nothing { (result ≡ number_of Status.ReadFailed)
+        ⊎ (result ≡ number_of Status.OutOfMemory)
         → K.written out.new ≡ K.written out.old }
 
     // What stays.
