@@ -1,5 +1,5 @@
 -- A type has each attribute and port of the types above it, in the same place and under the same id, narrowed.
-use Rattle.std.proofs.Common.{◌≡◌, ℕ, zero, suc, ◌≤◌, Bool, true, false, not, cond, ◌&&◌, List, [], ◌∷◌, ◌++◌, map, Option, Some, None, refl, sym, ap, ◌∙◌, subst, inl, inr, le_refl, leb-true, arith}
+use Rattle.std.proofs.Common.{◌≡◌, ℕ, zero, suc, ◌≤◌, true, false, not, cond, ◌&&◌, List, [], ◌∷◌, ◌++◌, map, Option, Some, None, refl, sym, ap, ◌∙◌, subst, inl, inr, le_refl, leb-true, arith}
 use Rattle.std.specs.Prelude.{slice_get, IsTrue, ℤ, int_le, ◌≤ℤ◌, nat_le}
 use Rattle.std.specs.Option.{option_map, option_map_or, option_and_then}
 use Rattle.std.specs.List.{list_any, list_all, find}
@@ -19,14 +19,15 @@ use Rattle.prod_model.specs.declared.model.Domain.{Domain}
 use Rattle.prod_model.specs.declared.model.Domain.TheVariants.{Range, Words}
 use Rattle.prod_model.specs.Names.{same_text, is_distinct}
 use Rattle.prod_model.specs.Forest.{is_a}
-use Rattle.prod_model.specs.Taxonomy.{Named, declarations_of, kept_entry, entries_of, first_id, new_declarations, new_entries, attributes_of, ports_of, attributes_at, ports_at, made_attribute, made_port, words_of}
-use Rattle.prod_model.specs.Valid.{IsDeclared, inherited, has_distinct_names, has_narrowings, attribute_narrows, port_narrows, narrows_domain, same_kind}
+use Rattle.prod_model.specs.Taxonomy.{Named, declarations_of, kept_entry, entries_of, first_id, new_declarations, new_entries, attributes_of, ports_of, attributes_at, ports_at, made_attribute, made_port}
+use Rattle.prod_model.specs.Valid.{IsDeclared, inherited, has_narrowings, attribute_narrows, port_narrows, narrows_domain, same_kind}
 use Rattle.base_laws.specs.Places.{IsAt}
 use Rattle.base_laws.proofs.Tests.{list_all_at, list_all_from, list_any_at, list_any_from}
 use Rattle.prod_model.proofs.NameLaws.{same_text_refl}
 use Rattle.prod_model.proofs.ForestLines.{HasNoCycle, HasParent, no_cycle}
 use Rattle.prod_model.proofs.LineLaws.{along_lines, is_a_cases, is_a_trans}
 use Rattle.base_laws.proofs.Places.{HasEach, find_at, map_at, at_map, at_front}
+use Rattle.prod_model.proofs.DistinctDeclarations.{distinct_each}
 use Rattle.prod_model.proofs.EntryNames.{same_text_same, entries_parent, names_distinct}
 
 -- ---- what a narrowing is
@@ -190,25 +191,17 @@ distinct_back : (ns ks : List (List ℕ)) → IsTrue (is_distinct (ns ++ ks)) �
 distinct_back [] ks distinct = distinct
 distinct_back (n ∷ ns) ks distinct = distinct_back ns ks (and_parts _ _ distinct).1
 
--- the test of one type in `has_distinct_names`
-abbrev distinct_members : TypeDecl → Bool
-distinct_members d = is_distinct (map (λ a. a.name) d.attributes ++ map (λ p. p.name) d.ports) && list_all (λ a. is_distinct (words_of a.domain)) d.attributes
-
 -- no declaration's name stands twice among a type's attributes, nor among its ports
 pub distinct_declarations : (m : Model) → IsDeclared m → (u : ℕ)
     → IsTrue (is_distinct (map (λ d. d.name) (declarations_of (λ d. d.attributes) (λ d. d.name) m.types u)))
     × IsTrue (is_distinct (map (λ d. d.name) (declarations_of (λ d. d.ports) (λ d. d.name) m.types u)))
-unfolding has_distinct_names
 distinct_declarations m is u = by (slice_get m.types u) refl
   where
-    each : IsTrue (list_all distinct_members m.types)
-    each = (and_parts (is_distinct (map (λ d. d.name) m.types) && is_distinct (map (λ r. r.name) m.rules)) (list_all distinct_members m.types) is.formed.distinct_names).1
-
     by : (o : Option TypeDecl) → slice_get m.types u ≡ o
         → IsTrue (is_distinct (map (λ d. d.name) (option_map_or (λ d. d.attributes) o []))) × IsTrue (is_distinct (map (λ d. d.name) (option_map_or (λ d. d.ports) o [])))
     by None stands = (refl, refl)
     by (Some d) stands =
-        let both = (and_parts _ _ (list_all_at distinct_members m.types each u d stands)).0 in
+        let both = distinct_each m is.formed.distinct_names u d stands in
         let attributes = map (λ (a : AttrDecl). a.name) d.attributes in
         let ports = map (λ (p : PortDecl). p.name) d.ports in
         (distinct_front attributes ports both, distinct_back attributes ports both)
