@@ -6,7 +6,8 @@ mod literals;
 use crate::fault::TaxFault;
 use crate::taxonomy::build;
 use answers::{answer_text, built};
-use literals::{Values, formed_box, linked, many, model_of, plain, sized};
+use literals::{formed_box, linked, many, plain, sized};
+use model_literals::{model_of, port, range, words};
 use prod_model::{Items, PortKind};
 use std::test::Fail;
 
@@ -18,9 +19,9 @@ fn knows_parents_and_targets(rt: HostRuntime) -> Result<(), Fail> {
         "UnknownParent { kind: 0 }"
     );
     assert_eq!(rt; built(alloc, &[])?.as_str(), "");
-    let door = linked(None, &[(b"door", PortKind::Part, 2, 0, 1)]);
+    let door = port(b"door", PortKind::Part, 2, 0, 1);
     assert_eq!(rt;
-        built(alloc, &[plain(None), door])?.as_str(),
+        built(alloc, &[plain(None), linked(None, &[door])])?.as_str(),
         "UnknownParent { kind: 1 }"
     );
     Ok(())
@@ -70,37 +71,25 @@ fn finds_circles(rt: HostRuntime) -> Result<(), Fail> {
 #[test]
 fn inherits_and_narrows_attributes(rt: HostRuntime) -> Result<(), Fail> {
     let alloc = rt.alloc();
+    let above = [range(b"size", 1, 9)];
+    let middle = [words(b"colour", &[b"red", b"blue", b"grey"])];
+    let below = [
+        range(b"weight", 0, 1),
+        words(b"colour", &[b"grey", b"red"]),
+        range(b"size", 2, 5),
+    ];
     let three_levels = [
-        sized(None, &[(b"size", Values::Range(1, 9))]),
-        sized(
-            Some(0),
-            &[(b"colour", Values::Words(&[b"red", b"blue", b"grey"]))],
-        ),
-        sized(
-            Some(1),
-            &[
-                (b"weight", Values::Range(0, 1)),
-                (b"colour", Values::Words(&[b"grey", b"red"])),
-                (b"size", Values::Range(2, 5)),
-            ],
-        ),
+        sized(None, &above),
+        sized(Some(0), &middle),
+        sized(Some(1), &below),
     ];
     assert_eq!(rt;
         built(alloc, &three_levels)?.as_str(),
         "( 0:1..9 )( 0:1..9 1:red|blue|grey| )( 0:2..5 1:grey|red| 2:0..1 )( )( )( )"
     );
-    let child_first = [
-        sized(
-            Some(1),
-            &[
-                (b"low", Values::Range(0, 1)),
-                (b"size", Values::Range(3, 4)),
-            ],
-        ),
-        sized(None, &[(b"size", Values::Range(1, 9))]),
-    ];
+    let child = [range(b"low", 0, 1), range(b"size", 3, 4)];
     assert_eq!(rt;
-        built(alloc, &child_first)?.as_str(),
+        built(alloc, &[sized(Some(1), &child), sized(None, &above)])?.as_str(),
         "( 1:3..4 0:0..1 )( 1:1..9 )( )( )"
     );
     Ok(())
@@ -109,10 +98,13 @@ fn inherits_and_narrows_attributes(rt: HostRuntime) -> Result<(), Fail> {
 #[test]
 fn keeps_trees_apart(rt: HostRuntime) -> Result<(), Fail> {
     let alloc = rt.alloc();
+    let first = [range(b"size", 1, 2)];
+    let second = [range(b"size", 5, 6)];
+    let below_second = [range(b"low", 0, 0)];
     let two_trees = [
-        sized(None, &[(b"size", Values::Range(1, 2))]),
-        sized(None, &[(b"size", Values::Range(5, 6))]),
-        sized(Some(1), &[(b"low", Values::Range(0, 0))]),
+        sized(None, &first),
+        sized(None, &second),
+        sized(Some(1), &below_second),
     ];
     assert_eq!(rt;
         built(alloc, &two_trees)?.as_str(),
@@ -124,16 +116,15 @@ fn keeps_trees_apart(rt: HostRuntime) -> Result<(), Fail> {
 #[test]
 fn inherits_and_narrows_ports(rt: HostRuntime) -> Result<(), Fail> {
     let alloc = rt.alloc();
+    let above = [port(b"door", PortKind::Part, 1, 0, 4)];
+    let below = [
+        port(b"lamp", PortKind::Shared, 0, 0, 1),
+        port(b"door", PortKind::Part, 3, 1, 2),
+    ];
     let kinds = [
-        linked(None, &[(b"door", PortKind::Part, 1, 0, 4)]),
+        linked(None, &above),
         plain(None),
-        linked(
-            Some(0),
-            &[
-                (b"lamp", PortKind::Shared, 0, 0, 1),
-                (b"door", PortKind::Part, 3, 1, 2),
-            ],
-        ),
+        linked(Some(0), &below),
         plain(Some(1)),
     ];
     assert_eq!(rt;
@@ -147,25 +138,26 @@ fn inherits_and_narrows_ports(rt: HostRuntime) -> Result<(), Fail> {
 fn refuses_wider_ranges(rt: HostRuntime) -> Result<(), Fail> {
     let alloc = rt.alloc();
     let wide = "Widening { kind: 1, port: false, place: 0 }";
-    for (values, want) in [
-        (Values::Range(0, 5), wide),
-        (Values::Range(5, 10), wide),
-        (Values::Words(&[b"red"]), wide),
-        (Values::Range(1, 9), "( 0:1..9 )( 0:1..9 )( )( )"),
-        (Values::Range(4, 4), "( 0:1..9 )( 0:4..4 )( )( )"),
+    let first = [range(b"size", 1, 9)];
+    for (again, want) in [
+        (range(b"size", 0, 5), wide),
+        (range(b"size", 5, 10), wide),
+        (words(b"size", &[b"red"]), wide),
+        (range(b"size", 1, 9), "( 0:1..9 )( 0:1..9 )( )( )"),
+        (range(b"size", 4, 4), "( 0:1..9 )( 0:4..4 )( )( )"),
     ] {
-        let again: [(&[u8], Values); 1] = [(b"size", values)];
-        let kinds = [
-            sized(None, &[(b"size", Values::Range(1, 9))]),
-            sized(Some(0), &again),
-        ];
+        let again = [again];
+        let kinds = [sized(None, &first), sized(Some(0), &again)];
         assert_eq!(rt; built(alloc, &kinds)?.as_str(), want);
     }
     // A type below narrows what was widened above it, and stands first in the file.
+    let below = [range(b"size", 2, 3)];
+    let wider = [range(b"size", 0, 9)];
+    let above = [range(b"size", 1, 8)];
     let chain = [
-        sized(Some(1), &[(b"size", Values::Range(2, 3))]),
-        sized(Some(2), &[(b"size", Values::Range(0, 9))]),
-        sized(None, &[(b"size", Values::Range(1, 8))]),
+        sized(Some(1), &below),
+        sized(Some(2), &wider),
+        sized(None, &above),
     ];
     assert_eq!(rt; built(alloc, &chain)?.as_str(), wide);
     Ok(())
@@ -175,23 +167,21 @@ fn refuses_wider_ranges(rt: HostRuntime) -> Result<(), Fail> {
 fn refuses_wider_words(rt: HostRuntime) -> Result<(), Fail> {
     let alloc = rt.alloc();
     let wide = "Widening { kind: 1, port: false, place: 0 }";
-    for (values, want) in [
-        (Values::Words(&[b"blue", b"green"]), wide),
-        (Values::Range(0, 1), wide),
+    let first = [words(b"colour", &[b"red", b"blue"])];
+    for (again, want) in [
+        (words(b"colour", &[b"blue", b"green"]), wide),
+        (range(b"colour", 0, 1), wide),
         (
-            Values::Words(&[b"blue"]),
+            words(b"colour", &[b"blue"]),
             "( 0:red|blue| )( 0:blue| )( )( )",
         ),
         (
-            Values::Words(&[b"blue", b"red"]),
+            words(b"colour", &[b"blue", b"red"]),
             "( 0:red|blue| )( 0:blue|red| )( )( )",
         ),
     ] {
-        let again: [(&[u8], Values); 1] = [(b"colour", values)];
-        let kinds = [
-            sized(None, &[(b"colour", Values::Words(&[b"red", b"blue"]))]),
-            sized(Some(0), &again),
-        ];
+        let again = [again];
+        let kinds = [sized(None, &first), sized(Some(0), &again)];
         assert_eq!(rt; built(alloc, &kinds)?.as_str(), want);
     }
     Ok(())
@@ -202,8 +192,8 @@ fn refuses_wider_words(rt: HostRuntime) -> Result<(), Fail> {
 #[test]
 fn compares_with_the_nearest(rt: HostRuntime) -> Result<(), Fail> {
     let alloc = rt.alloc();
-    let inner: [(&[u8], Values); 1] = [(b"x", Values::Range(0, 1))];
-    let link: [(&[u8], PortKind, u32, u32, u32); 1] = [(b"x", PortKind::Part, 2, 0, 1)];
+    let inner = [range(b"x", 0, 1)];
+    let link = [port(b"x", PortKind::Part, 2, 0, 1)];
     let attributes_below = [
         sized(Some(1), &inner),
         sized(Some(2), &inner),
@@ -223,11 +213,14 @@ fn compares_with_the_nearest(rt: HostRuntime) -> Result<(), Fail> {
         "Widening { kind: 1, port: true, place: 0 }"
     );
     // The grandchild is compared with the child, past a type that declares nothing.
+    let grandchild = [range(b"x", 0, 5)];
+    let child = [range(b"x", 1, 5)];
+    let first = [range(b"x", 0, 9)];
     let past_a_type = [
-        sized(Some(1), &[(b"x", Values::Range(0, 5))]),
+        sized(Some(1), &grandchild),
         plain(Some(2)),
-        sized(Some(3), &[(b"x", Values::Range(1, 5))]),
-        sized(None, &[(b"x", Values::Range(0, 9))]),
+        sized(Some(3), &child),
+        sized(None, &first),
     ];
     assert_eq!(rt;
         built(alloc, &past_a_type)?.as_str(),
@@ -244,6 +237,7 @@ fn refuses_wider_ports(rt: HostRuntime) -> Result<(), Fail> {
         ( 0:part 1 2..2 )( 0:part 1 1..3 )";
     let aimed = "( )( )( )( )( )( 0:part 1 1..3 )( 0:part 1 1..3 )( 0:part 1 1..3 )\
         ( 0:part 4 1..3 )( 0:part 1 1..3 )";
+    let first = [port(b"door", PortKind::Part, 1, 1, 3)];
     for (kind, target, low, high, want) in [
         (PortKind::Shared, 1, 1, 3, wide),
         (PortKind::Part, 1, 0, 3, wide),
@@ -254,9 +248,9 @@ fn refuses_wider_ports(rt: HostRuntime) -> Result<(), Fail> {
         (PortKind::Part, 0, 1, 3, wide),
         (PortKind::Part, 4, 1, 3, aimed),
     ] {
-        let again: [(&[u8], PortKind, u32, u32, u32); 1] = [(b"door", kind, target, low, high)];
+        let again = [port(b"door", kind, target, low, high)];
         let kinds = [
-            linked(None, &[(b"door", PortKind::Part, 1, 1, 3)]),
+            linked(None, &first),
             plain(Some(0)),
             plain(Some(0)),
             linked(Some(0), &again),
@@ -270,24 +264,15 @@ fn refuses_wider_ports(rt: HostRuntime) -> Result<(), Fail> {
 #[test]
 fn tells_attributes_from_ports(rt: HostRuntime) -> Result<(), Fail> {
     let alloc = rt.alloc();
-    let attribute = [
-        linked(None, &[(b"door", PortKind::Part, 0, 1, 3)]),
-        sized(
-            Some(0),
-            &[
-                (b"size", Values::Range(0, 1)),
-                (b"door", Values::Range(0, 1)),
-            ],
-        ),
-    ];
+    let door = [port(b"door", PortKind::Part, 0, 1, 3)];
+    let size_and_door = [range(b"size", 0, 1), range(b"door", 0, 1)];
+    let attribute = [linked(None, &door), sized(Some(0), &size_and_door)];
     assert_eq!(rt;
         built(alloc, &attribute)?.as_str(),
         "Widening { kind: 1, port: false, place: 1 }"
     );
-    let port = [
-        sized(None, &[(b"door", Values::Range(0, 1))]),
-        linked(Some(0), &[(b"door", PortKind::Part, 0, 1, 3)]),
-    ];
+    let sized_door = [range(b"door", 0, 1)];
+    let port = [sized(None, &sized_door), linked(Some(0), &door)];
     assert_eq!(rt;
         built(alloc, &port)?.as_str(),
         "Widening { kind: 1, port: true, place: 0 }"
@@ -315,7 +300,7 @@ fn counts_inherited_entries(rt: HostRuntime) -> Result<(), Fail> {
         let mut types = Items::new(alloc);
         types.push(many(alloc, None, b'x', above)?)?;
         types.push(many(alloc, Some(0), b'y', below)?)?;
-        let text = answer_text(alloc, &model_of(alloc, types))?;
+        let text = answer_text(alloc, &model_of(alloc, 0, 1, types))?;
         assert_eq!(rt;
             text.as_str() == "Crowded { kind: 1 }",
             crowded,
@@ -339,7 +324,7 @@ fn builds_a_long_chain(rt: HostRuntime) -> Result<(), Fail> {
     for t in 0..128u32 {
         types.push(many(alloc, t.checked_sub(1), b'x', (2, 0))?)?;
     }
-    let text = answer_text(alloc, &model_of(alloc, types))?;
+    let text = answer_text(alloc, &model_of(alloc, 0, 1, types))?;
     assert!(rt;
         text.as_str()
             .starts_with("( 0:0..1 1:0..1 )( 0:0..1 1:0..1 )")

@@ -1,13 +1,11 @@
 //! What is built of a model, as a text.
 ghost use Rattle.std.specs.Prelude.{◌≡◌, length, sum_by, IfSome};
 
-use super::literals::{TypeLiteral, declaration, model_of};
 use crate::declaration::Declaration;
 use crate::fault::TaxFault;
 use crate::taxonomy::build_few;
-use prod_model::{
-    AttrAt, AttrDecl, Domain, Items, Model, PortAt, PortDecl, PortKind, Tables, TypeDecl,
-};
+use model_literals::{TypeLiteral, model_of, types_of};
+use prod_model::{AttrAt, AttrDecl, Domain, Model, PortAt, PortDecl, PortKind, Tables, TypeDecl};
 use std::alloc::{AllocError, Global};
 use std::fmt::Write;
 use std::test::Fail;
@@ -100,9 +98,6 @@ pub(super) fn answer_text(alloc: Global, model: &Model) -> Result<String, Fail> 
 
 /// The answer at a forest of these types.
 pub(super) fn built(alloc: Global, literals: &[TypeLiteral]) -> Result<String, Fail> {
-    let mut types = Items::new(alloc);
-    for literal in literals {
-        types.push(declaration(alloc, literal)?)?;
-    }
-    answer_text(alloc, &model_of(alloc, types))
+    let types = types_of(alloc, literals)?;
+    answer_text(alloc, &model_of(alloc, 0, 1, types))
 }
