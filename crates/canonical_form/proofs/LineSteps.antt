@@ -5,6 +5,7 @@ use Rattle.std.specs.Result.{IsErrAnd}
 use Rattle.std.specs.Fmt.{decimal}
 use Rattle.std.specs.List.{zip}
 use Rattle.prod_model.specs.declared.model.Model.{Model}
+use Rattle.prod_model.specs.Limits.{most_instances}
 use Rattle.prod_model.specs.Forest.{is_leaf}
 use Rattle.prod_model.specs.Taxonomy.{attributes_of, ports_of}
 use Rattle.config_value.specs.declared.configuration.Instance.{Instance}
@@ -44,7 +45,7 @@ end_stops m n bytes none =
 
 -- ---- a line that is read
 
-pub number_reads : (m : Model) (n : ℕ) (bytes rest : List ℕ) → n < 64 → Takes (decimal n) behind_number bytes rest → Reads m (at_number n) bytes (at_type n) rest
+pub number_reads : (m : Model) (n : ℕ) (bytes rest : List ℕ) → n < most_instances → Takes (decimal n) behind_number bytes rest → Reads m (at_number n) bytes (at_type n) rest
 number_reads m n bytes rest few takes = Reads_one m (at_number n) (at_type n) (number_part n) bytes rest (few, refl, refl) takes.parts takes.ends
 
 pub type_reads : (m : Model) (n t : ℕ) (bytes rest : List ℕ) → IsTrue (is_leaf m t) → Takes (type_text m t) behind_name bytes rest

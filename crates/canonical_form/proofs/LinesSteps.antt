@@ -4,6 +4,7 @@ use Rattle.std.specs.List.{flat_map, enumerate_from}
 use Rattle.std.proofs.lemmas.Bool.{true≢false}
 use Rattle.std.proofs.lemmas.List.Concat.{flat_map-append}
 use Rattle.prod_model.specs.declared.model.Model.{Model}
+use Rattle.prod_model.specs.Limits.{most_instances}
 use Rattle.config_value.specs.declared.configuration.Instance.{Instance}
 use Rattle.canonical_form.specs.declared.fault.PartCode.TheVariants.{Number}
 use Rattle.canonical_form.specs.AnswerParts.{instance_parts}
@@ -18,7 +19,7 @@ pub record HasInstances (m : Model) (n : ℕ) (bytes : List ℕ) (c : List Insta
   pub begins : BeginsThen (flat_map (instance_parts m) (enumerate_from 0 c)) bytes rest
   pub spelled : HasSpelledInstances m c
   pub count : length c ≡ n
-  pub few : n ≤ 64
+  pub few : n ≤ most_instances
 
 pub no_instances : (m : Model) (bytes : List ℕ) → HasInstances m 0 bytes [] bytes
 no_instances m bytes = record { begins = refl; spelled = refl; count = refl; few = omega arith }
@@ -29,7 +30,7 @@ enumerate_push n (y ∷ ys) x =
     let e : n + 1 + length ys ≡ n + suc (length ys) = omega arith in
     ap (λ ps. (n, y) ∷ ps) (enumerate_push (n + 1) ys x ∙ ap (λ k. enumerate_from (n + 1) ys ++ (k, x) ∷ []) e)
 
-pub instances_more : (m : Model) (n : ℕ) (bytes : List ℕ) (c : List Instance) (rest : List ℕ) (x : Instance) (after : List ℕ) (new : List Instance) → n < 64
+pub instances_more : (m : Model) (n : ℕ) (bytes : List ℕ) (c : List Instance) (rest : List ℕ) (x : Instance) (after : List ℕ) (new : List Instance) → n < most_instances
     → HasInstances m n bytes c rest → IsInstance m n rest x after → new ≡ c ++ x ∷ [] → HasInstances m (n + 1) bytes new after
 instances_more m n bytes c rest x after new room has is pushed =
     let place : 0 + length c ≡ n = let k = has.count in omega arith in
@@ -52,13 +53,12 @@ instances_read m n bytes c rest has =
     record { read = flat_map (instance_parts m) (enumerate_from 0 c); leads = lines_lead m 0 c n has.spelled (omega arith) has.few; begins = has.begins }
 
 -- behind the last number that there can be something stands
-pub past_stops : (m : Model) (bytes : List ℕ) → bytes ≢ [] → Stops m (at_number 64) bytes 66 Number
-past_stops m bytes some = Stops_here m (at_number 64) bytes (λ p t behind follows parts ends. absurd (let none = follows.0 in omega arith)) (λ k same. some)
+pub past_stops : (m : Model) (n : ℕ) (bytes : List ℕ) → n ≡ most_instances → bytes ≢ [] → Stops m (at_number n) bytes (n + 2) Number
+past_stops m n bytes full some = Stops_here m (at_number n) bytes (λ p t behind follows parts ends. absurd (let none = follows.0 in omega arith)) (λ k same. some)
 
-pub instances_stop : (m : Model) (n : ℕ) (bytes : List ℕ) (c : List Instance) (rest : List ℕ) → n ≡ 64 → HasInstances m n bytes c rest → rest ≢ [] → Stops m (at_number 0) bytes 66 Number
+pub instances_stop : (m : Model) (n : ℕ) (bytes : List ℕ) (c : List Instance) (rest : List ℕ) → n ≡ most_instances → HasInstances m n bytes c rest → rest ≢ [] → Stops m (at_number 0) bytes (n + 2) Number
 instances_stop m n bytes c rest full has some =
-    let reads = subst (λ k. Reads m (at_number 0) bytes (at_number k) rest) full (instances_read m n bytes c rest has) in
-    Stops_then m (at_number 0) (at_number 64) bytes rest 66 Number reads (past_stops m rest some)
+    Stops_then m (at_number 0) (at_number n) bytes rest (n + 2) Number (instances_read m n bytes c rest has) (past_stops m n rest full some)
 
 pub instances_all : (m : Model) (n : ℕ) (bytes : List ℕ) (c : List Instance) (rest : List ℕ) → 1 ≤ n → HasInstances m n bytes c rest → rest ≡ [] → AreInstances m bytes c
 instances_all m n bytes c rest some has ended =

@@ -6,6 +6,7 @@ use Rattle.std.specs.Fmt.{decimal}
 use Rattle.std.proofs.lemmas.Bool.{false≢true}
 use Rattle.std.proofs.lemmas.Bool.Decides.{nat_tests}
 use Rattle.std.proofs.lemmas.Fmt.{decimal_injective}
+use Rattle.prod_model.specs.Limits.{most_instances}
 use Rattle.config_value.specs.Spelled.{is_spelled_links}
 use Rattle.canonical_form.specs.steps.Pieces.{numbers_piece}
 use Rattle.canonical_form.specs.AnswerParts.{behind_number, behind_links, links_end}
@@ -31,10 +32,10 @@ fewer_ends (b ∷ bs) ends = grind (arith)
 comma_ends : (rest : List ℕ) → IsTrue (ends_there behind_number (44 ∷ rest))
 comma_ends rest = refl
 
-one_ascends : (low link : ℕ) → low ≤ link → link < 64 → IsTrue (ascends_from low (link ∷ []))
+one_ascends : (low link : ℕ) → low ≤ link → link < most_instances → IsTrue (ascends_from low (link ∷ []))
 one_ascends low link from few = grind (arith, nat_tests)
 
-pub last_link : (low link : ℕ) (old bytes rest : List ℕ) → low ≤ link → link < 64 → Takes (decimal link) behind_number bytes rest → ((r : List ℕ) → rest ≢ 44 ∷ r)
+pub last_link : (low link : ℕ) (old bytes rest : List ℕ) → low ≤ link → link < most_instances → Takes (decimal link) behind_number bytes rest → ((r : List ℕ) → rest ≢ 44 ∷ r)
     → AddsLinks low old (old ++ link ∷ []) bytes rest
 last_link low link old bytes rest from few takes no_comma = record {
   links = link ∷ [];
@@ -43,7 +44,7 @@ last_link low link old bytes rest from few takes no_comma = record {
   takes = record { parts = takes.parts; ends = ends_links rest takes.ends no_comma };
 }
 
-more_ascends : (low link : ℕ) (js : List ℕ) → low ≤ link → link < 64 → IsTrue (ascends_from (link + 1) js) → IsTrue (ascends_from low (link ∷ js))
+more_ascends : (low link : ℕ) (js : List ℕ) → low ≤ link → link < most_instances → IsTrue (ascends_from (link + 1) js) → IsTrue (ascends_from low (link ∷ js))
 more_ascends low link [] from few more = absurd (false≢true more)
 more_ascends low link (j ∷ js) from few more = grind (arith, nat_tests)
 
@@ -52,7 +53,7 @@ more_text link [] next rest low some parts = absurd (false≢true some)
 more_text link (j ∷ js) next rest low some parts =
     ap (λ t. decimal link ++ (44 ∷ t)) parts ∙ sym (append_assoc (decimal link) (44 ∷ numbers_piece (j ∷ js)) rest)
 
-pub more_links : (low link : ℕ) (old middle new bytes behind next rest : List ℕ) → low ≤ link → link < 64 → Takes (decimal link) behind_number bytes behind → behind ≡ 44 ∷ next
+pub more_links : (low link : ℕ) (old middle new bytes behind next rest : List ℕ) → low ≤ link → link < most_instances → Takes (decimal link) behind_number bytes behind → behind ≡ 44 ∷ next
     → middle ≡ old ++ link ∷ [] → AddsLinks (link + 1) middle new next rest → AddsLinks low old new bytes rest
 more_links low link old middle new bytes behind next rest from few takes comma pushed more = record {
   links = link ∷ more.links;
@@ -64,7 +65,7 @@ more_links low link old middle new bytes behind next rest from few takes comma p
   };
 }
 
-first_ascends : (low j : ℕ) (js : List ℕ) → IsTrue (ascends_from low (j ∷ js)) → (low ≤ j) × (j < 64)
+first_ascends : (low j : ℕ) (js : List ℕ) → IsTrue (ascends_from low (j ∷ js)) → (low ≤ j) × (j < most_instances)
 first_ascends low j [] ascending = (grind (arith, nat_tests), grind (arith, nat_tests))
 first_ascends low j (k ∷ ks) ascending = (grind (arith, nat_tests), grind (arith, nat_tests))
 
@@ -80,7 +81,7 @@ first_link j (k ∷ ks) bytes rest takes = record {
   takes = record { parts = takes.parts ∙ append_assoc (decimal j) (44 ∷ numbers_piece (k ∷ ks)) rest; ends = comma_ends (numbers_piece (k ∷ ks) ++ rest) };
 }
 
-pub no_first : (low : ℕ) (bytes : List ℕ) → ((j : ℕ) (rest : List ℕ) → low ≤ j → j < 64 → ¬ Takes (decimal j) behind_number bytes rest)
+pub no_first : (low : ℕ) (bytes : List ℕ) → ((j : ℕ) (rest : List ℕ) → low ≤ j → j < most_instances → ¬ Takes (decimal j) behind_number bytes rest)
     → TakesNone numbers_piece (λ js. behind_links) (ascends_from low) bytes
 no_first low bytes none [] rest ascending takes = false≢true ascending
 no_first low bytes none (j ∷ js) rest ascending takes =
@@ -98,7 +99,7 @@ later_ascends low j k ks ascending = grind (arith)
 same_tail : (xs ys : List ℕ) → 44 ∷ xs ≡ 44 ∷ ys → xs ≡ ys
 same_tail xs ys same = cc
 
-pub no_more : (low link : ℕ) (bytes behind next : List ℕ) → low ≤ link → link < 64 → Takes (decimal link) behind_number bytes behind → behind ≡ 44 ∷ next
+pub no_more : (low link : ℕ) (bytes behind next : List ℕ) → low ≤ link → link < most_instances → Takes (decimal link) behind_number bytes behind → behind ≡ 44 ∷ next
     → TakesNone numbers_piece (λ js. behind_links) (ascends_from (link + 1)) next → TakesNone numbers_piece (λ js. behind_links) (ascends_from low) bytes
 no_more low link bytes behind next from few first comma none [] rest ascending takes = false≢true ascending
 no_more low link bytes behind next from few first comma none (j ∷ []) rest ascending takes =

@@ -5,6 +5,7 @@ use Rattle.std.specs.Fmt.{decimal}
 use Rattle.std.specs.List.{flat_map, enumerate_from, zip, join_with_byte}
 use Rattle.std.proofs.lemmas.List.Concat.{flat_map-append}
 use Rattle.prod_model.specs.declared.model.Model.{Model}
+use Rattle.prod_model.specs.Limits.{most_instances}
 use Rattle.prod_model.specs.declared.model.AttrAt.{AttrAt}
 use Rattle.prod_model.specs.declared.model.PortAt.{PortAt}
 use Rattle.prod_model.specs.Taxonomy.{Named, attributes_of, ports_of}
@@ -32,7 +33,7 @@ record HasFirst (p : Part) : Type 0 where
 first_of_part : (p q : Part) → p ≡ q → HasFirst q → HasFirst p
 first_of_part p q same first = subst HasFirst (sym same) first
 
-number_first : (n : ℕ) → n < 64 → HasFirst (record { line = n + 2; code = Number; text = decimal n; end = behind_number })
+number_first : (n : ℕ) → n < most_instances → HasFirst (record { line = n + 2; code = Number; text = decimal n; end = behind_number })
 number_first n few = let d = decimal_cons n (omega arith) in record { byte = d.0; others = d.1; text = d.2 }
 
 Follows_first : (m : Model) (s : State) (p : Part) (t : State) → Follows m s p t → HasFirst p

@@ -134,10 +134,10 @@ another_text v text same other =
     let e : same_text (signed_decimal v) (signed_decimal v) ≡ false = subst (λ t. same_text (signed_decimal v) t ≡ false) same other in
     false≢true (sym e ∙ same_text_refl (signed_decimal v))
 
-pub link_within : (low j : ℕ) → j < 64 → is_within Limits.farthest_end (pos j) ≡ true
+pub link_within : (low j : ℕ) → j < Limits.most_instances → is_within Limits.farthest_end (pos j) ≡ true
 link_within low j few = grind (arith, nat_tests, ints)
 
-pub link_is : (low j : ℕ) → low ≤ j → j < 64 → is_link_from low (pos j) ≡ true
+pub link_is : (low j : ℕ) → low ≤ j → j < Limits.most_instances → is_link_from low (pos j) ≡ true
 link_is low j from few = grind (arith, nat_tests, ints)
 
 -- ---- what is kept of a number
@@ -153,7 +153,7 @@ small_fits n small = grind (arith, ints)
 some_number : (v z : ℤ) → Some v ≡ Some z → v ≡ z
 some_number v z same = cc
 
-pub no_link_from : (low j : ℕ) (v : ℤ) → Some v ≡ Some (pos j) → low ≤ j → j < 64 → is_link_from low (to_z w64 (of_z w64 v)) ≡ false → ⊥
+pub no_link_from : (low j : ℕ) (v : ℤ) → Some v ≡ Some (pos j) → low ≤ j → j < Limits.most_instances → is_link_from low (to_z w64 (of_z w64 v)) ≡ false → ⊥
 no_link_from low j v same from few other =
     let back : to_z w64 (of_z w64 v) ≡ pos j = ap (λ y. to_z w64 (of_z w64 y)) (some_number v (pos j) same) ∙ to_z-of_z w64 (pos j) (small_fits j (omega arith)) in
     let refused : is_link_from low (pos j) ≡ false = subst (λ y. is_link_from low y ≡ false) back other in

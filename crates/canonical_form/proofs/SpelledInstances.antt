@@ -5,6 +5,7 @@ use Rattle.std.specs.List.{list_all, enumerate_from}
 use Rattle.std.proofs.lemmas.Bool.Decides.{nat_tests}
 use lib.Pointwise.{pointwise}
 use Rattle.prod_model.specs.declared.model.Model.{Model}
+use Rattle.prod_model.specs.Limits.{most_instances}
 use Rattle.prod_model.specs.Forest.{is_leaf}
 use Rattle.prod_model.specs.Taxonomy.{attributes_at, ports_at}
 use Rattle.config_value.specs.declared.configuration.Instance.{Instance}
@@ -13,8 +14,8 @@ use Rattle.config_value.specs.Spelled.{is_spelled_value, is_spelled_links, is_sp
 use Rattle.canonical_form.specs.steps.Written.{IsWritten}
 use Rattle.base_laws.proofs.Tests.{list_all_at}
 
--- there are at most 64 instances
-pub few_instances : (m : Model) (c : List Instance) → is_spelled m c ≡ true → length c ≤ 64
+-- there are at most so many instances as the limit allows
+pub few_instances : (m : Model) (c : List Instance) → is_spelled m c ≡ true → length c ≤ most_instances
 unfolding is_spelled
 few_instances m c spelled = grind (arith, nat_tests)
 

@@ -5,6 +5,7 @@ use Rattle.std.specs.List.{list_all, flat_map, enumerate_from, zip}
 use Rattle.std.proofs.lemmas.Bool.Decides.{nat_tests}
 use lib.Pointwise.{pointwise}
 use Rattle.prod_model.specs.declared.model.Model.{Model}
+use Rattle.prod_model.specs.Limits.{most_instances}
 use Rattle.prod_model.specs.declared.model.AttrAt.{AttrAt}
 use Rattle.prod_model.specs.declared.model.PortAt.{PortAt}
 use Rattle.prod_model.specs.Forest.{is_leaf}
@@ -25,14 +26,14 @@ both_all p q (x ∷ c) = let rest = both_all p q c in grind (arith)
 abbrev pub HasSpelledInstances : Model → List Instance → Type 0
 HasSpelledInstances m c = list_all (is_spelled_instance m) c ≡ true
 
-pub spelled_instances : (m : Model) (c : List Instance) → IsTrue (is_spelled m c) → HasSpelledInstances m c × (1 ≤ length c) × (length c ≤ 64)
+pub spelled_instances : (m : Model) (c : List Instance) → IsTrue (is_spelled m c) → HasSpelledInstances m c × (1 ≤ length c) × (length c ≤ most_instances)
 unfolding is_spelled has_leaf_types
 spelled_instances m c spelled =
     let both = both_all (λ (x : Instance). is_leaf m x.kind && (length x.values == length (attributes_at m x.kind)) && (length x.links == length (ports_at m x.kind)))
     (λ (x : Instance). pointwise (is_spelled_value m) (attributes_at m x.kind) x.values && list_all is_spelled_links x.links) c in
     (grind (arith), grind (arith, nat_tests), grind (arith, nat_tests))
 
-pub spelled_list : (m : Model) (c : List Instance) → HasSpelledInstances m c → 1 ≤ length c → length c ≤ 64 → IsTrue (is_spelled m c)
+pub spelled_list : (m : Model) (c : List Instance) → HasSpelledInstances m c → 1 ≤ length c → length c ≤ most_instances → IsTrue (is_spelled m c)
 unfolding is_spelled has_leaf_types
 spelled_list m c all some few =
     let both = both_all (λ (x : Instance). is_leaf m x.kind && (length x.values == length (attributes_at m x.kind)) && (length x.links == length (ports_at m x.kind)))
@@ -74,7 +75,7 @@ length_map_what (e ∷ es) = ap suc (length_map_what es)
 pub length_links : (m : Model) (x : Instance) → is_spelled_instance m x ≡ true → length x.links ≡ length (ports_of m.types x.kind)
 length_links m x spelled = let long : length x.links ≡ length (ports_at m x.kind) = grind (arith, nat_tests) in long ∙ length_map_what (ports_of m.types x.kind)
 
-instance_leads : (m : Model) (n : ℕ) (x : Instance) → n < 64 → is_spelled_instance m x ≡ true → Leads m (at_number n) (instance_parts m (n, x)) (at_number (n + 1))
+instance_leads : (m : Model) (n : ℕ) (x : Instance) → n < most_instances → is_spelled_instance m x ≡ true → Leads m (at_number n) (instance_parts m (n, x)) (at_number (n + 1))
 unfolding instance_parts
 instance_leads m n x few spelled =
     let as' = attributes_of m.types x.kind in
@@ -91,7 +92,7 @@ instance_leads m n x few spelled =
       ),
     )
 
-pub lines_lead : (m : Model) (n : ℕ) (c : List Instance) (k : ℕ) → HasSpelledInstances m c → n + length c ≡ k → k ≤ 64
+pub lines_lead : (m : Model) (n : ℕ) (c : List Instance) (k : ℕ) → HasSpelledInstances m c → n + length c ≡ k → k ≤ most_instances
     → Leads m (at_number n) (flat_map (instance_parts m) (enumerate_from n c)) (at_number k)
 lines_lead m n [] k all count few = let e : n ≡ k = omega arith in ap (λ i. at_number i) e
 lines_lead m n (x ∷ c) k all count few =

@@ -3,6 +3,7 @@ use Rattle.std.proofs.Common.{◌≡◌, ℕ, pos, ◌+◌, ◌<◌, ◌≤◌, 
 use Rattle.std.specs.Prelude.{IsTrue}
 use Rattle.std.proofs.lemmas.Bool.{cases_lt}
 use Rattle.prod_model.specs.declared.model.Model.{Model}
+use Rattle.prod_model.specs.Limits.{most_instances}
 use Rattle.prod_model.specs.declared.model.AttrAt.{AttrAt}
 use Rattle.prod_model.specs.declared.model.PortAt.{PortAt}
 use Rattle.prod_model.specs.Taxonomy.{Named, attributes_of, ports_of}
@@ -28,9 +29,9 @@ use Rattle.canonical_form.proofs.SpelledValues.{HaveLeast, least_values}
 abbrev CanFinish : Model → State → Type 0
 CanFinish m at_header = Unit {0}
 CanFinish m at_header_end = Unit {0}
-CanFinish m (at_number n) = n ≤ 64
-CanFinish m (at_type n) = n < 64
-CanFinish m (at_members n es qs) = (n < 64) × HaveLeast m es
+CanFinish m (at_number n) = n ≤ most_instances
+CanFinish m (at_type n) = n < most_instances
+CanFinish m (at_members n es qs) = (n < most_instances) × HaveLeast m es
 
 Follows_can : (m : Model) (s : State) (p : Part) (t : State) → IsValid m → CanFinish m s → Follows m s p t → CanFinish m t
 Follows_can m at_header p t valid can follows = subst (CanFinish m) (sym follows.1) tt
@@ -54,7 +55,7 @@ record Finishes (m : Model) (s : State) : Type 0 where
   line_is : part.line ≡ line_of s
   code_is : part.code ≡ code_of s
   some : 1 ≤ count
-  few : count ≤ 64
+  few : count ≤ most_instances
 
 finish_before : (m : Model) (s t : State) (p : Part) → Follows m s p t → p.line ≡ line_of s → p.code ≡ code_of s → Finishes m t → Finishes m s
 finish_before m s t p follows line code more = record {
@@ -68,7 +69,7 @@ finish_before m s t p follows line code more = record {
   few = more.few;
 }
 
-finish_members : (m : Model) (n : ℕ) (es : List (Named AttrAt)) (qs : List (Named PortAt)) → n < 64 → HaveLeast m es → Finishes m (at_members n es qs)
+finish_members : (m : Model) (n : ℕ) (es : List (Named AttrAt)) (qs : List (Named PortAt)) → n < most_instances → HaveLeast m es → Finishes m (at_members n es qs)
 finish_members m n [] [] few least = record {
   count = n + 1;
   part = end_part (n + 2);
@@ -84,14 +85,14 @@ finish_members m n [] (q ∷ qs) few least =
 finish_members m n (e ∷ es) qs few least =
     finish_before m (at_members n (e ∷ es) qs) (at_members n es qs) (attribute_part m (n + 2) (e, pos 0)) (pos 0, least.0, refl, refl) refl refl (finish_members m n es qs few least.1)
 
-finish_type : (m : Model) (n : ℕ) → IsValid m → n < 64 → Finishes m (at_type n)
+finish_type : (m : Model) (n : ℕ) → IsValid m → n < most_instances → Finishes m (at_type n)
 finish_type m n valid few =
     let leaf = leaf_of m valid in
     let t = leaf.kind in
     finish_before m (at_type n) (at_members n (attributes_of m.types t) (ports_of m.types t)) (type_part m n t) (t, leaf.leaf, refl, refl) refl refl
     (finish_members m n (attributes_of m.types t) (ports_of m.types t) few (least_values m t valid))
 
-finish_number : (m : Model) (n : ℕ) → IsValid m → n < 64 → Finishes m (at_number n)
+finish_number : (m : Model) (n : ℕ) → IsValid m → n < most_instances → Finishes m (at_number n)
 finish_number m n valid few = finish_before m (at_number n) (at_type n) (number_part n) (few, refl, refl) refl refl (finish_type m n valid few)
 
 finish_header_end : (m : Model) → IsValid m → Finishes m at_header_end
@@ -118,8 +119,8 @@ continued m s read leads finishes =
       next = inside finishes.part finishes.later all.parts finishes.line_is finishes.code_is;
     }
 
--- behind 64 instances there is no more
-continued_past : (m : Model) (n : ℕ) (read : List Part) → n ≡ 64 → Leads m at_header read (at_number n) → Continues m read (n + 2) Number
+-- behind the most instances that there can be there is no more
+continued_past : (m : Model) (n : ℕ) (read : List Part) → n ≡ most_instances → Leads m at_header read (at_number n) → Continues m read (n + 2) Number
 continued_past m n read full leads =
     let all = rebuilt_all m n read leads in
     let counted = all.count in
@@ -132,7 +133,7 @@ continued_past m n read full leads =
 continues : (m : Model) (s : State) (read : List Part) → IsValid m → CanFinish m s → Leads m at_header read s → Continues m read (line_of s) (code_of s)
 continues m at_header read valid can leads = continued m at_header read leads (finish_header m valid)
 continues m at_header_end read valid can leads = continued m at_header_end read leads (finish_header_end m valid)
-continues m (at_number n) read valid can leads = elim (cases_lt n 64) [
+continues m (at_number n) read valid can leads = elim (cases_lt n most_instances) [
   | inl few ↦ continued m (at_number n) read leads (finish_number m n valid few)
   | inr full ↦ continued_past m n read (omega arith) leads
 ]

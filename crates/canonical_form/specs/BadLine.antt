@@ -1,5 +1,5 @@
 -- The first line at which bytes leave the spelling of an answer, and the code of the part.
-use Rattle.std.specs.Prelude.{◌≡◌, ℕ, Bool, true, not, IsTrue, List, [], ◌∷◌, ◌++◌, length}
+use Rattle.std.specs.Prelude.{◌≡◌, ℕ, ◌+◌, Bool, true, not, IsTrue, List, [], ◌∷◌, ◌++◌, length}
 use Rattle.prod_model.specs.declared.model.Model.{Model}
 use Rattle.prod_model.specs.Limits.{most_instances}
 use Rattle.config_value.specs.declared.configuration.Instance.{Instance}
@@ -33,7 +33,7 @@ pub data IsNext (m : Model) (c : List Instance) (read : List Part) (line : ℕ) 
     : Type 0 where
   inside : (p : Part) (later : List Part) → parts_of m c ≡ read ++ p ∷ later
       → p.line ≡ line → p.code ≡ code → IsNext m c read line code
-  past_last : parts_of m c ≡ read → length c ≡ most_instances → line ≡ 66 → code ≡ Number
+  past_last : parts_of m c ≡ read → length c ≡ most_instances → line ≡ most_instances + 2 → code ≡ Number
       → IsNext m c read line code
 
 -- The bytes are no answer. They begin with some parts of one, and no answer that has these has a

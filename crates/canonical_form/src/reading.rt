@@ -16,12 +16,14 @@ use crate::fault::{AnswerRefusal, PartCode};
 use crate::names::KnownTypes;
 use config_value::{Configuration, Instance};
 use line::read_instance;
+use prod_model::limits::MOST_INSTANCES;
 use prod_model::{Items, Problem};
 use std::alloc::Global;
 use tokens::{behind_byte, behind_text};
 use type_names::TypeNames;
 
-/// The instances of all lines, up to the end of the bytes. There are 1 to 64.
+/// The instances of all lines, up to the end of the bytes. There is one at least, and there are no
+/// more than the limit.
 fn read_instances(
     alloc: Global,
     known: &KnownTypes,
@@ -38,8 +40,8 @@ fn read_instances(
     let mut number = 0;
     let mut rest = bytes;
     while number == 0 || !rest.is_empty() {
-        if number == 64 {
-            return Err(AnswerRefusal::at(66, PartCode::Number));
+        if number as usize == MOST_INSTANCES {
+            return Err(AnswerRefusal::at(number + 2, PartCode::Number));
         }
         let (instance, after) = read_instance(alloc, known, names, number, rest)?;
         instances.push(instance)?;

@@ -59,11 +59,12 @@ abbrev pub begins_with_digit : List ℕ → Bool
 begins_with_digit [] = false
 begins_with_digit (b ∷ bs) = is_digit b
 
--- a number from `low` to 63
+-- a number from `low` on, below the greatest number of instances
 abbrev pub is_link_from : ℕ → ℤ → Bool
 is_link_from low v = int_le (pos low) v && int_lt v (pos Limits.most_instances)
 
--- links of which each is at least `low`, above the one before it and below 64; there is one
+-- links of which each is at least `low`, above the one before it and below the greatest number of
+-- instances; there is one
 abbrev pub ascends_from : ℕ → List ℕ → Bool
 ascends_from low [] = false
 ascends_from low (j ∷ []) = nat_le low j && nat_lt j Limits.most_instances
@@ -104,12 +105,13 @@ pub record IsInstance (m : Model) (n : ℕ) (bytes : List ℕ) (x : Instance) (r
   pub begins : BeginsThen (instance_parts m (n, x)) bytes rest
   pub spelled : IsTrue (is_spelled_instance m x)
 
--- 1 to 64 instances that can be written, with their lines and nothing behind them
+-- instances that can be written, one or more and no more than the limit, with their lines and
+-- nothing behind them
 pub record AreInstances (m : Model) (bytes : List ℕ) (c : List Instance) : Type 0 where
   pub begins : BeginsThen (flat_map (instance_parts m) (enumerate_from 0 c)) bytes []
   pub spelled : IsTrue (list_all (is_spelled_instance m) c)
   pub some : 1 ≤ length c
-  pub few : length c ≤ 64
+  pub few : length c ≤ Limits.most_instances
 
 -- ---- refusals
 

@@ -1,6 +1,7 @@
 //! Reads the line of an instance.
 ghost use Rattle.std.specs.Prelude.{◌≡◌, ◌≢◌, ◌<◌, [], map, IsTrue, IfOk, IfErr, IfSome, None};
 ghost use Rattle.prod_model.specs.Forest.{is_leaf};
+ghost use Rattle.prod_model.specs.Limits.{most_instances};
 ghost use Rattle.prod_model.specs.Valid.{IsValid};
 ghost use Rattle.canonical_form.specs.AnswerParts.{behind_name};
 ghost use Rattle.canonical_form.specs.steps.FirstRows.{AreFirsts};
@@ -52,7 +53,7 @@ pub fn read_instance<'a>(
     requires valid { IsValid known.now.problem.now }
     requires firsts { AreFirsts known.now.problem.now known.now.rows.items }
     requires named { names.now ≡ map (λ d. d.name) known.now.problem.now.types }
-    requires few { number < 64 }
+    requires few { number < most_instances }
     requires unended { 0 < number → bytes.now ≢ [] }
     ensures read { IfOk result
         (λ r. IsInstance known.now.problem.now number bytes.now r.0 r.1.now) }

@@ -1,6 +1,7 @@
 //! Reads the ports of an instance.
 ghost use Rattle.std.specs.Prelude.{◌≡◌, ℕ, ◌≤◌, ◌<◌, List, [], length, IsTrue, IfOk, IfErr, IfSome, None};
 ghost use Rattle.std.specs.Fmt.{decimal};
+ghost use Rattle.prod_model.specs.Limits.{most_instances};
 ghost use Rattle.prod_model.specs.Taxonomy.{ports_of};
 ghost use Rattle.config_value.specs.Spelled.{is_spelled_links};
 ghost use Rattle.canonical_form.specs.steps.Pieces.{numbers_piece, port_piece};
@@ -12,14 +13,15 @@ ghost use Rattle.canonical_form.specs.steps.Reading.{Takes, TakesNone, AddsLinks
 use super::tokens::{Reach, behind_byte, behind_sign, number_of, split_token};
 use crate::fault::{AnswerRefusal, PartCode};
 use crate::names::KnownTypes;
+use prod_model::limits::MOST_INSTANCES;
 use prod_model::{Items, PortDecl};
 use std::alloc::{AllocError, Global};
 
-/// A number from `low` to 63, and what stands behind it.
+/// A number from `low` on, below the greatest number of instances, and what stands behind it.
 fn read_link(low: u32, bytes: &[u8]) -> Option<(u32, &[u8])>
-    ensures found { IfSome result (λ r. (low ≤ r.0) × (r.0 < 64)
+    ensures found { IfSome result (λ r. (low ≤ r.0) × (r.0 < most_instances)
         × Takes (decimal r.0) behind_number bytes.now r.1.now) }
-    ensures none { result ≡ None → (j : ℕ) (rest : List ℕ) → low ≤ j → j < 64
+    ensures none { result ≡ None → (j : ℕ) (rest : List ℕ) → low ≤ j → j < most_instances
         → ¬ Takes (decimal j) behind_number bytes.now rest }
 {
     let (digits, rest) = split_token(Reach::Number, bytes);
@@ -33,7 +35,7 @@ fn read_link(low: u32, bytes: &[u8]) -> Option<(u32, &[u8])>
 fn is_link(low: u32, link: i64) -> bool
     ensures { result ≡ is_link_from low link }
 {
-    i64::from(low) <= link && link < 64
+    i64::from(low) <= link && link < MOST_INSTANCES as i64
 }
 
 /// Appends the links that the bytes begin with, each from `low` and above the one before it, with
@@ -116,7 +118,7 @@ pub fn read_ports<'a>(
 ) -> Result<(Items<Items<u32>>, &'a [u8]), AnswerRefusal>
     requires typed { kind < length known.now.problem.now.types }
     requires firsts { AreFirsts known.now.problem.now known.now.rows.items }
-    requires few { number < 64 }
+    requires few { number < most_instances }
     ensures read { IfOk result
         (λ r. AreLinks known.now.problem.now number kind bytes.now r.0 r.1.now) }
     ensures refused { IfErr result (Refuses known.now.problem.now

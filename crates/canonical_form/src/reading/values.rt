@@ -2,7 +2,7 @@
 ghost use Rattle.std.specs.Prelude.{◌≡◌, ℕ, ℤ, ◌+◌, ◌^◌, ◌<◌, ◌++◌, List, [], ◌∷◌, length, codes, IsTrue, IfOk, IfErr, IfSome, None};
 ghost use Rattle.std.specs.List.{list_all, position};
 ghost use Rattle.std.specs.Fmt.{signed_decimal};
-ghost use Rattle.prod_model.specs.Limits.{is_within, farthest_end};
+ghost use Rattle.prod_model.specs.Limits.{is_within, farthest_end, most_instances};
 ghost use Rattle.prod_model.specs.Names.{is_word, same_text};
 ghost use Rattle.prod_model.specs.Valid.{IsValid};
 ghost use Rattle.prod_model.specs.Taxonomy.{words_of, attributes_of, ports_of};
@@ -126,7 +126,7 @@ pub fn read_attributes<'a>(
     requires valid { IsValid known.now.problem.now }
     requires typed { kind < length known.now.problem.now.types }
     requires firsts { AreFirsts known.now.problem.now known.now.rows.items }
-    requires few { number < 64 }
+    requires few { number < most_instances }
     ensures read { IfOk result
         (λ r. AreValues known.now.problem.now number kind bytes.now r.0 r.1.now) }
     ensures refused { IfErr result (Refuses known.now.problem.now
