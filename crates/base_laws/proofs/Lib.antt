@@ -4,6 +4,7 @@ pub mod Tests
 pub mod Ranges
 pub mod Steps
 pub mod Lists
+pub mod Elements
 pub mod Finding
 pub mod Pieces
 pub mod Triples

@@ -20,7 +20,8 @@ use Rattle.expr_bounds.specs.declared.fault_kind.FaultKind.TheVariants.{Deep, Un
 use Rattle.expr_bounds.specs.declared.standing.Standing.{Standing}
 use Rattle.expr_bounds.proofs.ArgumentLaws.{nesting_argument, nesting_some}
 use Rattle.expr_bounds.proofs.BoundsLaws.{bounds_at_form}
-use Rattle.expr_bounds.proofs.Elements.{none_contained, whole_contained}
+use Rattle.base_laws.proofs.Elements.{none_contained}
+use Rattle.expr_bounds.proofs.Elements.{whole_contained}
 use Rattle.expr_bounds.proofs.FaultsFound.{too_deep, found}
 use Rattle.expr_bounds.proofs.FormSound.{kind_of, some_kind, sound_at}
 

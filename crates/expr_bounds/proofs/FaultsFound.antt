@@ -6,7 +6,8 @@ use Rattle.std.proofs.lemmas.Bool.{false≢true}
 use Rattle.std.proofs.lemmas.Bool.Decides.{nat_tests}
 use Rattle.std.proofs.lemmas.List.Elements.{Contains-append_left, Contains-append_right, Contains-append_cases}
 use Rattle.base_laws.specs.Places.{IsAt}
-use Rattle.expr_bounds.proofs.Elements.{none_contained, contains_places, places_contained, whole_contained, contains_whole, contains_flat, flat_contained, unless_contained, contains_unless}
+use Rattle.base_laws.proofs.Elements.{none_contained, contains_flat, flat_contained}
+use Rattle.expr_bounds.proofs.Elements.{contains_places, places_contained, whole_contained, contains_whole, unless_contained, contains_unless}
 use Rattle.prod_model.specs.declared.model.Model.{Model}
 use Rattle.prod_model.specs.declared.expr.Expr.{Expr}
 use Rattle.prod_model.specs.declared.expr.Expr.TheViews.{out-Expr}

@@ -12,7 +12,7 @@ use Rattle.expr_bounds.specs.steps.Arguments.{argument_list, first_place}
 use Rattle.expr_bounds.specs.steps.Search.{own_faults, standing_below, HasFaultAt, own, inner, IsPathBefore}
 use Rattle.expr_bounds.specs.declared.fault_kind.FaultKind.{FaultKind}
 use Rattle.expr_bounds.specs.declared.standing.Standing.{Standing}
-use Rattle.expr_bounds.proofs.Elements.{contained_at}
+use Rattle.base_laws.proofs.Elements.{contained_at}
 use Rattle.expr_bounds.proofs.PathOrder.{not_before_same, not_before_greater}
 use Rattle.expr_bounds.proofs.OwnOrder.{own_ascend, own_before_inner}
 

@@ -21,13 +21,13 @@ use Rattle.expr_bounds.specs.declared.fault_kind.FaultKind.{FaultKind}
 use Rattle.expr_bounds.specs.declared.fault_kind.FaultKind.TheVariants.{Deep, UnknownName, WrongKind, Wide}
 use Rattle.expr_bounds.specs.declared.standing.Standing.{Standing}
 use Rattle.base_laws.proofs.Tests.{list_all_at}
-use Rattle.expr_bounds.proofs.Elements.{at_contained}
+use Rattle.base_laws.proofs.Elements.{at_contained}
 use Rattle.expr_bounds.proofs.PathOrder.{not_before_whole, before_rest}
 
 -- ---- tests of all members
 
 all_contains : {X : Type 0} (p : X → Bool) (xs : List X) (x : X) → list_all p xs ≡ true → Contains xs x → p x ≡ true
-all_contains p xs x all among = let at = at_contained xs x among in list_all_at p xs all at.0 x at.1
+all_contains p xs x all among = list_all_at p xs all among.0 x (at_contained xs x among)
 
 -- ---- own faults ascend
 

@@ -18,7 +18,8 @@ use Rattle.expr_bounds.specs.steps.Search.{whole_at, has_bounded_arguments, is_i
 use Rattle.expr_bounds.specs.declared.fault_kind.FaultKind.TheVariants.{UnknownName, WrongKind}
 use Rattle.expr_bounds.proofs.ArgumentLaws.{argument_index, argument_contained}
 use Rattle.expr_bounds.proofs.BoundsLaws.{bounds_at_form}
-use Rattle.expr_bounds.proofs.Elements.{contains_flat, contains_unless}
+use Rattle.base_laws.proofs.Elements.{contains_flat}
+use Rattle.expr_bounds.proofs.Elements.{contains_unless}
 use Rattle.expr_bounds.proofs.EndsLaws.{unbounded_wide}
 use Rattle.expr_bounds.proofs.FaultsFound.{find_name, find_attribute, find_argument}
 use Rattle.expr_bounds.proofs.FormLaws.{formed_argument}

@@ -1,12 +1,12 @@
 //! The small model that the tests are about.
-ghost use Rattle.std.specs.Prelude.{◌≡◌, ◌≤◌, ◌∷◌, [], length, pos, neg_ℤ, IfOk};
-ghost use Rattle.prod_model.specs.Taxonomy.{tables_of};
-ghost use Rattle.prod_model.specs.Valid.{IsDeclared};
-ghost use Rattle.expr_bounds.specs.steps.Sample.{range as range_decl, colour as colour_decl, colours as colour_words, blue_only, slot as slot_decl, box as box_decl, card as card_decl, blue as blue_decl, sample, sample_tables, range_at, colour_at, slot_at};
+ghost use Rattle.std.specs.Prelude.{◌≡◌, ◌∷◌, [], map, pos, neg_ℤ, IfOk};
+ghost use Rattle.model_literals.specs.Literals.{name_of};
+ghost use Rattle.expr_bounds.specs.steps.Sample.{box as box_decl, card as card_decl, blue as blue_decl, sample, sample_tables, range_at, colour_at, slot_at};
 
-use prod_model::{
-    AttrAt, AttrDecl, Domain, Items, Model, Name, PortAt, PortDecl, PortKind, Tables, TypeDecl,
+use model_literals::{
+    Values, domain_of, model_of, one, port, range, two, type_literal, type_of, words,
 };
+use prod_model::{AttrAt, Domain, Items, Model, PortAt, PortKind, Tables, TypeDecl};
 use std::alloc::{AllocError, Global};
 
 /// A model of three types with its tables.
@@ -31,106 +31,41 @@ fn model(alloc: Global) -> Result<Model, AllocError>
     ensures { IfOk result (λ m. m ≡ sample) }
 {
     let types = three(alloc, box_type(alloc)?, card(alloc)?, blue(alloc)?)?;
-    Ok(Model {
-        root: 0,
-        instances: 5,
-        types,
-        bounds: Items::new(alloc),
-        rules: Items::new(alloc),
-    })
+    Ok(model_of(alloc, 0, 5, types))
 }
 
 fn box_type(alloc: Global) -> Result<TypeDecl, AllocError>
     ensures { IfOk result (λ d. d ≡ box_decl) }
 {
-    let width = range(alloc, b"width", -4, 1_000_000)?;
-    let colour = colour(alloc, colours(alloc)?)?;
-    Ok(TypeDecl {
-        name: Name::from_bytes(alloc, b"Box")?,
-        parent: None,
-        attributes: two(alloc, width, colour)?,
-        ports: one(alloc, slot(alloc, 2, 3)?)?,
-    })
+    let attributes = [
+        range(b"width", -4, 1_000_000),
+        words(b"colour", &[b"red", b"green", b"blue"]),
+    ];
+    let slot = [port(b"slot", PortKind::Part, 1, 2, 3)];
+    type_of(alloc, &type_literal(b"Box", None, &attributes, &slot))
 }
 
 fn card(alloc: Global) -> Result<TypeDecl, AllocError>
     ensures { IfOk result (λ d. d ≡ card_decl) }
 {
-    let power = range(alloc, b"power", -5, 7)?;
-    let loss = range(alloc, b"loss", -9, -3)?;
-    Ok(TypeDecl {
-        name: Name::from_bytes(alloc, b"Card")?,
-        parent: None,
-        attributes: two(alloc, power, loss)?,
-        ports: Items::new(alloc),
-    })
+    let attributes = [range(b"power", -5, 7), range(b"loss", -9, -3)];
+    type_of(alloc, &type_literal(b"Card", None, &attributes, &[]))
 }
 
 fn blue(alloc: Global) -> Result<TypeDecl, AllocError>
     ensures { IfOk result (λ d. d ≡ blue_decl) }
 {
-    let colour = colour(alloc, blue_word(alloc)?)?;
-    Ok(TypeDecl {
-        name: Name::from_bytes(alloc, b"Blue")?,
-        parent: Some(0),
-        attributes: one(alloc, colour)?,
-        ports: one(alloc, slot(alloc, 2, 2)?)?,
-    })
-}
-
-fn range(alloc: Global, name: &[u8], low: i64, high: i64) -> Result<AttrDecl, AllocError>
-    requires some { 1 ≤ length name.now }
-    requires short { length name.now ≤ 32 }
-    ensures { IfOk result (λ d. d ≡ range_decl name.now low high) }
-{
-    Ok(AttrDecl {
-        name: Name::from_bytes(alloc, name)?,
-        domain: Domain::Range { low, high },
-    })
-}
-
-fn colour(alloc: Global, words: Items<Name>) -> Result<AttrDecl, AllocError>
-    ensures { IfOk result (λ d. d ≡ colour_decl words) }
-{
-    Ok(AttrDecl {
-        name: Name::from_bytes(alloc, b"colour")?,
-        domain: Domain::Words(words),
-    })
-}
-
-fn colours(alloc: Global) -> Result<Items<Name>, AllocError>
-    ensures { IfOk result (λ words. words ≡ colour_words) }
-{
-    let red = Name::from_bytes(alloc, b"red")?;
-    let green = Name::from_bytes(alloc, b"green")?;
-    let blue = Name::from_bytes(alloc, b"blue")?;
-    three(alloc, red, green, blue)
-}
-
-fn blue_word(alloc: Global) -> Result<Items<Name>, AllocError>
-    ensures { IfOk result (λ words. words ≡ blue_only) }
-{
-    one(alloc, Name::from_bytes(alloc, b"blue")?)
-}
-
-fn slot(alloc: Global, low: u32, high: u32) -> Result<PortDecl, AllocError>
-    ensures { IfOk result (λ d. d ≡ slot_decl low high) }
-{
-    Ok(PortDecl {
-        name: Name::from_bytes(alloc, b"slot")?,
-        kind: PortKind::Part,
-        target: 1,
-        low,
-        high,
-    })
+    let colour = [words(b"colour", &[b"blue"])];
+    let slot = [port(b"slot", PortKind::Part, 1, 2, 2)];
+    type_of(alloc, &type_literal(b"Blue", Some(0), &colour, &slot))
 }
 
 fn tables(alloc: Global) -> Result<Tables, AllocError>
     ensures { IfOk result (λ t. t ≡ sample_tables) }
 {
-    let of_box = two(alloc, width(), of_colour(colours(alloc)?))?;
+    let of_box = two(alloc, width(), colour(alloc, &[b"red", b"green", b"blue"])?)?;
     let of_card = two(alloc, of_range(2, -5, 7), of_range(3, -9, -3))?;
-    let of_blue = two(alloc, width(), of_colour(blue_word(alloc)?))?;
+    let of_blue = two(alloc, width(), colour(alloc, &[b"blue"])?)?;
     let slots = one(alloc, of_slot(2, 3))?;
     let blue_slots = one(alloc, of_slot(2, 2))?;
     Ok(Tables {
@@ -154,13 +89,11 @@ fn of_range(id: u32, low: i64, high: i64) -> AttrAt
     }
 }
 
-fn of_colour(words: Items<Name>) -> AttrAt
-    ensures { result ≡ colour_at words }
+fn colour(alloc: Global, words: &[&[u8]]) -> Result<AttrAt, AllocError>
+    ensures { IfOk result (λ a. a ≡ colour_at (map (λ word. name_of word.now) words.now)) }
 {
-    AttrAt {
-        id: 1,
-        domain: Domain::Words(words),
-    }
+    let domain = domain_of(alloc, &Values::OneOf(words))?;
+    Ok(AttrAt { id: 1, domain })
 }
 
 fn of_slot(low: u32, high: u32) -> PortAt
@@ -173,22 +106,6 @@ fn of_slot(low: u32, high: u32) -> PortAt
         low,
         high,
     }
-}
-
-fn one<T: Drop>(alloc: Global, a: T) -> Result<Items<T>, AllocError>
-    ensures { IfOk result (λ items. items ≡ a ∷ []) }
-{
-    let mut items = Items::new(alloc);
-    items.push(a)?;
-    Ok(items)
-}
-
-pub(crate) fn two<T: Drop>(alloc: Global, a: T, b: T) -> Result<Items<T>, AllocError>
-    ensures { IfOk result (λ items. items ≡ a ∷ b ∷ []) }
-{
-    let mut items = one(alloc, a)?;
-    items.push(b)?;
-    Ok(items)
 }
 
 fn three<T: Drop>(alloc: Global, a: T, b: T, c: T) -> Result<Items<T>, AllocError>

@@ -3,7 +3,8 @@ ghost use Rattle.std.specs.Prelude.{◌<◌};
 
 use crate::bounds_of;
 use crate::formed::is_formed;
-use crate::sample::{Sample, two};
+use crate::sample::Sample;
+use model_literals::two;
 use prod_model::{Boxed, Expr, Relation};
 use std::alloc::{AllocError, Global};
 
