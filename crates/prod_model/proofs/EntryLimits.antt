@@ -18,6 +18,7 @@ use Rattle.prod_model.specs.Limits
 use Rattle.prod_model.specs.Limits.{is_between}
 use Rattle.prod_model.specs.Forest.{line}
 use Rattle.prod_model.specs.Taxonomy.{Named, declarations_of, is_declared_above, new_declarations, new_entries, kept_entry, extended_entries, entries_of, first_id, attributes_of, ports_of, attributes_at, ports_at, made_attribute, made_port}
+use Rattle.prod_model.proofs.Inverses.{declared_at}
 use Rattle.prod_model.specs.Valid.{IsDeclared, is_pair, has_ends, has_numbers_of, has_numbers_in_limits}
 
 module _ {D A : Type 0} (declared : TypeDecl → List D) (name_of : D → List ℕ) (made : ℕ → D → A) (narrowed : D → A → A) (types : List TypeDecl)
@@ -95,9 +96,11 @@ attribute_ends m is t k a at =
 pub port_pairs : (m : Model) → IsDeclared m → (t k : ℕ) (q : PortAt) → IsAt (ports_at m t) k q → IsTrue (is_pair q.low q.high)
 unfolding ports_of
 port_pairs m is t k q at =
-    let entry = map_at (λ e. e.what) (ports_of m.types t) k q at in
+    let port = declared_at m t k q at in
+    let entry = map_at (λ e. e.what) (ports_of m.types t) k port.0 port.1 in
     let each : IsTrue (list_all (λ d. list_all (λ p. is_pair p.low p.high) d.ports) m.types) =
     list_all_from (λ d. list_all (λ p. is_pair p.low p.high) d.ports) m.types (λ k d at. (and_parts _ _ (list_all_at has_numbers_of m.types (numbers_of_types m is) k d at)).1) in
     let all = entries_pass (λ d. d.ports) (λ d. d.name) made_port (λ d p. made_port p.id d) m.types (λ d. is_pair d.low d.high) (λ q. is_pair q.low q.high)
     (λ id d pair. pair) (λ d a pair. pair) each t in
-    subst (λ q. IsTrue (is_pair q.low q.high)) entry.2 (list_all_at (λ e. is_pair e.what.low e.what.high) (ports_of m.types t) all k entry.0 entry.1)
+    subst (λ q. IsTrue (is_pair q.low q.high)) port.2
+    (subst (λ q. IsTrue (is_pair q.low q.high)) entry.2 (list_all_at (λ e. is_pair e.what.low e.what.high) (ports_of m.types t) all k entry.0 entry.1))

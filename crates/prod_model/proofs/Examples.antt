@@ -9,8 +9,8 @@ use Rattle.prod_model.specs.declared.model.Domain.TheVariants.{Range, Words}
 use Rattle.prod_model.specs.declared.model.PortKind.TheVariants.{Part, Shared}
 use Rattle.prod_model.specs.Names.{is_name, is_word}
 use Rattle.prod_model.specs.Forest.{type_numbers, line, ancestors, is_a, is_leaf, is_forest}
-use Rattle.prod_model.specs.Taxonomy.{tables_of, attributes_of, ports_of, attributes_at, ports_at, first_words}
-use Rattle.prod_model.specs.Valid.{IsValid, has_short_lists, has_formed_names, has_distinct_names, has_numbers_in_limits, has_known_parents_and_targets, has_known_types, has_narrowings, has_room, has_one_bound_each, has_faultless_rules}
+use Rattle.prod_model.specs.Taxonomy.{tables_of, attributes_of, ports_of, attributes_at, ports_at, first_words, inverse_of}
+use Rattle.prod_model.specs.Valid.{IsValid, has_short_lists, has_formed_names, has_distinct_names, has_numbers_in_limits, has_known_parents_and_targets, has_known_types, has_narrowings, has_room, has_one_bound_each, has_faultless_rules, has_right_inverses}
 
 -- Two trees: Item over Card over Big and Small, and Driver. Big stands before its parent Card, and Card before Item.
 -- Card narrows the words of Item in another order, and Big has a port of its own before one that it narrows.
@@ -19,7 +19,7 @@ big = record {
   name = codes "Big";
   parent = Some 1;
   attributes = record { name = codes "power"; domain = Range (pos 5) (pos 9) } ∷ [];
-  ports = record { name = codes "fan"; kind = Part; target = 0; low = 0; high = 1 } ∷ record { name = codes "driver"; kind = Shared; target = 4; low = 1; high = 1 } ∷ [];
+  ports = record { name = codes "fan"; kind = Part; target = 0; low = 0; high = 1; inverse = None } ∷ record { name = codes "driver"; kind = Shared; target = 4; low = 1; high = 1; inverse = None } ∷ [];
 }
 
 abbrev card : TypeDecl
@@ -27,7 +27,7 @@ card = record {
   name = codes "Card";
   parent = Some 2;
   attributes = record { name = codes "power"; domain = Range (neg_ℤ (pos 3)) (pos 9) } ∷ record { name = codes "colour"; domain = Words (codes "blue" ∷ codes "red" ∷ []) } ∷ [];
-  ports = record { name = codes "driver"; kind = Shared; target = 4; low = 0; high = 2 } ∷ [];
+  ports = record { name = codes "driver"; kind = Shared; target = 4; low = 0; high = 2; inverse = None } ∷ [];
 }
 
 abbrev item : TypeDecl
@@ -53,7 +53,7 @@ sample = record { root = 2; instances = 5; types = types; bounds = []; rules = [
 -- everything on this page computes
 computing : Unit {0}
 unfolding is_a is_leaf is_forest attributes_of ports_of tables_of first_words is_name is_word
-    has_short_lists has_formed_names has_distinct_names has_numbers_in_limits has_known_parents_and_targets has_known_types has_narrowings has_room has_one_bound_each has_faultless_rules
+    has_short_lists has_formed_names has_distinct_names has_numbers_in_limits has_known_parents_and_targets has_known_types has_narrowings has_room has_one_bound_each has_faultless_rules has_right_inverses inverse_of
 computing = tt
 
 line_of_Big : line types 0 ≡ 0 ∷ 1 ∷ 2 ∷ []
@@ -80,7 +80,7 @@ attributes_of_Big = refl
 
 -- fan is new in Big, and driver in Card, which stands later
 ports_of_Big : ports_at sample 0
-    ≡ record { id = 1; kind = Shared; target = 4; low = 1; high = 1 } ∷ record { id = 0; kind = Part; target = 0; low = 0; high = 1 } ∷ []
+    ≡ record { id = 1; kind = Shared; target = 4; low = 1; high = 1; inverse = None } ∷ record { id = 0; kind = Part; target = 0; low = 0; high = 1; inverse = None } ∷ []
 unfolding computing
 ports_of_Big = refl
 
@@ -98,6 +98,7 @@ sample_is_valid = record {
     taxonomy = record { known_parents = refl; forest = refl; narrowings = refl; room = refl };
   };
   faultless_rules = refl;
+  right_inverses = refl;
 }
 
 -- ---- what isn't valid
@@ -128,6 +129,6 @@ narrowings_of_colour : map (λ d. has_narrowings (with_child (colour_of d))) (Wo
 unfolding computing
 narrowings_of_colour = refl
 
-port_of_that_name : has_narrowings (with_child (record { name = codes "Child"; parent = Some 0; attributes = []; ports = record { name = codes "colour"; kind = Part; target = 0; low = 0; high = 1 } ∷ [] })) ≡ false
+port_of_that_name : has_narrowings (with_child (record { name = codes "Child"; parent = Some 0; attributes = []; ports = record { name = codes "colour"; kind = Part; target = 0; low = 0; high = 1; inverse = None } ∷ [] })) ≡ false
 unfolding computing
 port_of_that_name = refl

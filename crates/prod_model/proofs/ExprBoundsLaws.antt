@@ -16,7 +16,7 @@ use Rattle.prod_model.specs.declared.expr.Expr.TheViews.{roll-Expr}
 use Rattle.prod_model.specs.declared.expr.Expr.TheFolds.{fold-roll-Expr}
 use Rattle.prod_model.specs.declared.expr.Relation.{Relation}
 use Rattle.prod_model.specs.Forest.{is_type}
-use Rattle.prod_model.specs.Taxonomy.{attribute_of, port_of}
+use Rattle.prod_model.specs.Taxonomy.{attribute_of, declared_port_of}
 use Rattle.prod_model.specs.Nesting.{nesting, layer_nesting}
 use Rattle.prod_model.specs.steps.ExprBounds.{sum_onto}
 use Rattle.prod_model.specs.ExprBounds.{bounds_at, layer_bounds, bounded, is_number, low_of, high_of, sum_of_some, sum_of_all, difference, multiple, comparison, truth_of, of_range, is_word_of, has_arguments}
@@ -43,15 +43,15 @@ module _ (m : Model) (t : ℕ) where
   unfolding bounds_at
   bounds_at_Attr a = ap (λ (f : ℕ → Option Bounds). f t) (fold-roll-Expr (ℕ → Option Bounds) (layer_bounds m) (Attr a))
 
-  pub bounds_at_Count : (p : ℕ) → bounds_at m (roll-Expr (Count p)) t ≡ option_map (λ q. number (pos q.low) (pos q.high)) (port_of m t p)
+  pub bounds_at_Count : (p : ℕ) → bounds_at m (roll-Expr (Count p)) t ≡ option_map (λ q. number (pos q.low) (pos q.high)) (declared_port_of m t p)
   unfolding bounds_at
   bounds_at_Count p = ap (λ (f : ℕ → Option Bounds). f t) (fold-roll-Expr (ℕ → Option Bounds) (layer_bounds m) (Count p))
 
-  pub bounds_at_CountOf : (p u : ℕ) → bounds_at m (roll-Expr (CountOf p u)) t ≡ (if is_type m u then option_map (λ q. number (pos 0) (pos q.high)) (port_of m t p) else None)
+  pub bounds_at_CountOf : (p u : ℕ) → bounds_at m (roll-Expr (CountOf p u)) t ≡ (if is_type m u then option_map (λ q. number (pos 0) (pos q.high)) (declared_port_of m t p) else None)
   unfolding bounds_at
   bounds_at_CountOf p u = ap (λ (f : ℕ → Option Bounds). f t) (fold-roll-Expr (ℕ → Option Bounds) (layer_bounds m) (CountOf p u))
 
-  pub bounds_at_Sum : (p a : ℕ) → bounds_at m (roll-Expr (Sum p a)) t ≡ option_and_then (λ q. option_and_then (of_range (sum_of_some q.low q.high)) (attribute_of m q.target a)) (port_of m t p)
+  pub bounds_at_Sum : (p a : ℕ) → bounds_at m (roll-Expr (Sum p a)) t ≡ option_and_then (λ q. option_and_then (of_range (sum_of_some q.low q.high)) (attribute_of m q.target a)) (declared_port_of m t p)
   unfolding bounds_at
   bounds_at_Sum p a = ap (λ (f : ℕ → Option Bounds). f t) (fold-roll-Expr (ℕ → Option Bounds) (layer_bounds m) (Sum p a))
 
@@ -110,11 +110,11 @@ module _ (m : Model) (t : ℕ) where
   unfolding bounds_at
   bounds_at_If e f = ap (λ (f : ℕ → Option Bounds). f t) (fold-roll-Expr (ℕ → Option Bounds) (layer_bounds m) (If e f))
 
-  pub bounds_at_All : (p : ℕ) (e : Expr) → bounds_at m (roll-Expr (All p e)) t ≡ option_and_then (λ q. truth_of (bounds_at m e q.target ∷ [])) (port_of m t p)
+  pub bounds_at_All : (p : ℕ) (e : Expr) → bounds_at m (roll-Expr (All p e)) t ≡ option_and_then (λ q. truth_of (bounds_at m e q.target ∷ [])) (declared_port_of m t p)
   unfolding bounds_at
   bounds_at_All p e = ap (λ (f : ℕ → Option Bounds). f t) (fold-roll-Expr (ℕ → Option Bounds) (layer_bounds m) (All p e))
 
-  pub bounds_at_Any : (p : ℕ) (e : Expr) → bounds_at m (roll-Expr (Any p e)) t ≡ option_and_then (λ q. truth_of (bounds_at m e q.target ∷ [])) (port_of m t p)
+  pub bounds_at_Any : (p : ℕ) (e : Expr) → bounds_at m (roll-Expr (Any p e)) t ≡ option_and_then (λ q. truth_of (bounds_at m e q.target ∷ [])) (declared_port_of m t p)
   unfolding bounds_at
   bounds_at_Any p e = ap (λ (f : ℕ → Option Bounds). f t) (fold-roll-Expr (ℕ → Option Bounds) (layer_bounds m) (Any p e))
 

@@ -20,11 +20,15 @@ words name ws = record { name = name; domain = Words ws }
 
 -- a part port, by its target and its least and greatest number of links
 abbrev pub part : List ℕ → ℕ → ℕ → ℕ → PortDecl
-part name target low high = record { name = name; kind = Part; target = target; low = low; high = high }
+part name target low high = record { name = name; kind = Part; target = target; low = low; high = high; inverse = None }
 
 -- a port of kind `use`
 abbrev pub shared : List ℕ → ℕ → ℕ → ℕ → PortDecl
-shared name target low high = record { name = name; kind = Shared; target = target; low = low; high = high }
+shared name target low high = record { name = name; kind = Shared; target = target; low = low; high = high; inverse = None }
+
+-- the port with an inverse of this name
+abbrev pub with_inverse : List ℕ → PortDecl → PortDecl
+with_inverse name d = record d { inverse = Some name }
 
 -- a type without parent
 abbrev pub root_type : List ℕ → List AttrDecl → List PortDecl → TypeDecl

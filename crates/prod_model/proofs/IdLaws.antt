@@ -19,7 +19,7 @@ use Rattle.prod_model.specs.declared.model.AttrAt.{AttrAt}
 use Rattle.prod_model.specs.declared.model.PortAt.{PortAt}
 use Rattle.prod_model.specs.Names.{same_text, is_distinct, is_distinct_number}
 use Rattle.prod_model.specs.Forest.{line}
-use Rattle.prod_model.specs.Taxonomy.{Named, declarations_of, new_declarations, all_new_declarations, first_id, new_entries, kept_entry, extended_entries, entries_of, made_attribute, made_port, attributes_of, ports_of, attributes_at, ports_at}
+use Rattle.prod_model.specs.Taxonomy.{Named, declarations_of, new_declarations, all_new_declarations, first_id, new_entries, kept_entry, extended_entries, entries_of, made_attribute, made_port, attributes_of, ports_of, attributes_at, declared_ports_at, ports_at, with_inverse}
 use Rattle.prod_model.specs.Valid.{IsDeclared}
 use Rattle.prod_model.proofs.NameLaws.{same_text_refl}
 use Rattle.prod_model.proofs.ForestLines.{HasNoCycle, no_cycle, line_within_types}
@@ -154,6 +154,7 @@ attribute_ids_differ m is t =
 pub port_ids_differ : (m : Model) → IsDeclared m → (t : ℕ) → IsTrue (is_distinct_number (map (λ p. p.id) (ports_at m t)))
 unfolding ports_of
 port_ids_differ m is t =
-    ap is_distinct_number (map-map (λ (p : PortAt). p.id) (λ (e : Named PortAt). e.what) (ports_of m.types t))
+    ap is_distinct_number (map-map (λ (p : PortAt). p.id) (with_inverse m) (declared_ports_at m t))
+    ∙ ap is_distinct_number (map-map (λ (p : PortAt). p.id) (λ (e : Named PortAt). e.what) (ports_of m.types t))
     ∙ ids_distinct (λ d. d.ports) (λ d. d.name) made_port (λ d p. made_port p.id d) (λ p. p.id) (λ id d. refl) (λ d p. refl) m.types
     (no_cycle m is.taxonomy.forest) (λ u. (distinct_declarations m is u).1) t

@@ -1,4 +1,5 @@
 pub mod TaxonomyLaws
+pub mod Inverses
 pub mod NameLaws
 pub mod ForestLines
 pub mod EntryLaws
@@ -18,6 +19,7 @@ mod ForestExamples
 mod BoundsExamples
 mod NestingExamples
 mod ValidExamples
+mod InverseExamples
 mod NameExamples
 mod FormedExamples
 mod NarrowingExamples

@@ -19,8 +19,9 @@ use Rattle.prod_model.specs.declared.model.Domain.{Domain}
 use Rattle.prod_model.specs.declared.model.Domain.TheVariants.{Range, Words}
 use Rattle.prod_model.specs.Names.{same_text, is_distinct}
 use Rattle.prod_model.specs.Forest.{is_a}
-use Rattle.prod_model.specs.Taxonomy.{Named, declarations_of, kept_entry, entries_of, first_id, new_declarations, new_entries, attributes_of, ports_of, attributes_at, ports_at, made_attribute, made_port}
+use Rattle.prod_model.specs.Taxonomy.{Named, declarations_of, kept_entry, entries_of, first_id, new_declarations, new_entries, attributes_of, ports_of, attributes_at, declared_ports_at, ports_at, with_inverse, made_attribute, made_port}
 use Rattle.prod_model.specs.Valid.{IsDeclared, inherited, has_narrowings, attribute_narrows, port_narrows, narrows_domain, same_kind}
+use Rattle.prod_model.proofs.Inverses.{declared_at}
 use Rattle.base_laws.specs.Places.{IsAt}
 use Rattle.base_laws.proofs.Tests.{list_all_at, list_all_from, list_any_at, list_any_from}
 use Rattle.prod_model.proofs.NameLaws.{same_text_refl}
@@ -236,10 +237,10 @@ attributes_kept m is t p above =
     sym (ap (λ o. option_map_or (λ b. narrows_domain d.domain b.domain) o true) above_it) ∙ (and_parts _ _ narrows).1 in
     record { same_id = refl; within = narrows_within d.domain e.what.domain within; narrows = within })
 
--- a type has its parent's ports, narrowed
-pub ports_kept : (m : Model) → IsDeclared m → (t p : ℕ) → HasParent m.types t p → HasEach (IsPortWithin m) (ports_at m p) (ports_at m t)
+-- a type has its parent's ports as they are declared, narrowed
+declared_ports_kept : (m : Model) → IsDeclared m → (t p : ℕ) → HasParent m.types t p → HasEach (IsPortWithin m) (declared_ports_at m p) (declared_ports_at m t)
 unfolding ports_of
-ports_kept m is t p above =
+declared_ports_kept m is t p above =
     each_kept (λ d. d.ports) (λ d. d.name) made_port (λ d p. made_port p.id d) m.types (IsPortWithin m) (port_within_refl m) (no_cycle m is.taxonomy.forest)
     (λ u. (distinct_declarations m is u).1) t p above (λ j d e there found.
     let declared : IsAt above.decl.ports j d = subst (λ o. IsAt (option_map_or (λ d. d.ports) o []) j d) above.stands there in
@@ -259,6 +260,15 @@ ports_kept m is t p above =
       high = leb-true _ _ two.1;
       target = λ u under. is_a_trans m is.taxonomy.forest u d.target e.what.target under three.1;
     })
+
+-- a type has its parent's ports, narrowed
+pub ports_kept : (m : Model) → IsDeclared m → (t p : ℕ) → HasParent m.types t p → HasEach (IsPortWithin m) (ports_at m p) (ports_at m t)
+ports_kept m is t p above k x there =
+    let port = declared_at m p k x there in
+    let kept = declared_ports_kept m is t p above k port.0 port.1 in
+    let within : IsPortWithin m (with_inverse m port.0) (with_inverse m kept.0) =
+    record { same_id = kept.2.same_id; low = kept.2.low; high = kept.2.high; target = kept.2.target } in
+    (with_inverse m kept.0, at_map (with_inverse m) (declared_ports_at m t) k kept.0 kept.1, subst (λ q. IsPortWithin m q (with_inverse m kept.0)) port.2 within)
 
 -- A type under another has each attribute of that one, narrowed.
 pub attributes_narrow : (m : Model) → IsDeclared m → (t u : ℕ) → IsTrue (is_a m t u) → HasEach IsAttributeWithin (attributes_at m u) (attributes_at m t)

@@ -3,7 +3,7 @@ use Rattle.std.specs.Prelude.{◌≡◌, pos, negsuc, [], ◌∷◌, codes, map,
 use Rattle.prod_model.specs.declared.model.Model.{Model}
 use Rattle.prod_model.specs.declared.model.PortKind.TheVariants.{Part, Shared}
 use Rattle.prod_model.specs.declared.model.Domain.TheVariants.{Range, Words}
-use Rattle.prod_model.specs.Taxonomy.{attributes_of, ports_of, attributes_at, ports_at, tables_of, first_words, attribute_of, port_of}
+use Rattle.prod_model.specs.Taxonomy.{attributes_of, ports_of, attributes_at, ports_at, tables_of, first_words, attribute_of, port_of, inverse_of}
 use Rattle.prod_model.proofs.Forms.{range, words, part, shared, root_type, subtype}
 
 -- Blue (0) comes before its parent Box (1), narrows its words in another order, and has a port of its own before a narrowed
@@ -73,24 +73,24 @@ grandchild_names = refl
 
 -- The inherited port comes first, narrowed, though the type's own one is declared before it.
 child_ports : ports_at boxes 0 ≡
-    record { id = 1; kind = Part; target = 2; low = 1; high = 1 } ∷ record { id = 0; kind = Part; target = 2; low = 0; high = 1 } ∷ []
-unfolding ports_of
+    record { id = 1; kind = Part; target = 2; low = 1; high = 1; inverse = None } ∷ record { id = 0; kind = Part; target = 2; low = 0; high = 1; inverse = None } ∷ []
+unfolding ports_of inverse_of
 child_ports = refl
 
-parent_ports : ports_at boxes 1 ≡ record { id = 1; kind = Part; target = 2; low = 0; high = 2 } ∷ []
-unfolding ports_of
+parent_ports : ports_at boxes 1 ≡ record { id = 1; kind = Part; target = 2; low = 0; high = 2; inverse = None } ∷ []
+unfolding ports_of inverse_of
 parent_ports = refl
 
 -- A port is narrowed in its target and its pair, and a new one follows.
 grandchild_ports : ports_at boxes 3 ≡
-    record { id = 1; kind = Part; target = 2; low = 1; high = 1 }
-    ∷ record { id = 0; kind = Part; target = 4; low = 1; high = 1 }
-    ∷ record { id = 2; kind = Shared; target = 2; low = 0; high = 3 } ∷ []
-unfolding ports_of
+    record { id = 1; kind = Part; target = 2; low = 1; high = 1; inverse = None }
+    ∷ record { id = 0; kind = Part; target = 4; low = 1; high = 1; inverse = None }
+    ∷ record { id = 2; kind = Shared; target = 2; low = 0; high = 3; inverse = None } ∷ []
+unfolding ports_of inverse_of
 grandchild_ports = refl
 
 grandchild_port_names : map (λ p. p.name) (ports_of boxes.types 3) ≡ codes "slot" ∷ codes "own" ∷ codes "cable" ∷ []
-unfolding ports_of
+unfolding ports_of inverse_of
 grandchild_port_names = refl
 
 -- The tables have a row for each type, in file order.
@@ -109,7 +109,7 @@ unfolding attributes_of
 no_type_has_nothing = refl
 
 no_type_has_no_ports : ports_at boxes 6 ≡ []
-unfolding ports_of
+unfolding ports_of inverse_of
 no_type_has_no_ports = refl
 
 -- ---- by id
@@ -138,12 +138,12 @@ size_of_box : attribute_of boxes 1 0 ≡ None
 unfolding attributes_of
 size_of_box = refl
 
-own_of_navy : port_of boxes 3 0 ≡ Some (record { id = 0; kind = Part; target = 4; low = 1; high = 1 })
-unfolding ports_of
+own_of_navy : port_of boxes 3 0 ≡ Some (record { id = 0; kind = Part; target = 4; low = 1; high = 1; inverse = None })
+unfolding ports_of inverse_of
 own_of_navy = refl
 
 own_of_box : port_of boxes 1 0 ≡ None
-unfolding ports_of
+unfolding ports_of inverse_of
 own_of_box = refl
 
 -- ---- one name in several types

@@ -6,8 +6,8 @@ use Rattle.prod_model.specs.declared.model.AttrDecl.{AttrDecl}
 use Rattle.prod_model.specs.declared.model.PortDecl.{PortDecl}
 use Rattle.prod_model.specs.Names.{is_name, is_word}
 use Rattle.prod_model.specs.Forest.{is_a, is_forest}
-use Rattle.prod_model.specs.Taxonomy.{attributes_of, ports_of}
-use Rattle.prod_model.specs.Valid.{has_short_lists, has_formed_names, has_distinct_names, has_numbers_in_limits, has_known_types, has_one_bound_each, has_known_parents_and_targets, has_narrowings, has_room, has_faultless_rules, IsValid}
+use Rattle.prod_model.specs.Taxonomy.{attributes_of, ports_of, inverse_of}
+use Rattle.prod_model.specs.Valid.{has_short_lists, has_formed_names, has_distinct_names, has_numbers_in_limits, has_known_types, has_one_bound_each, has_known_parents_and_targets, has_narrowings, has_room, has_faultless_rules, has_right_inverses, IsValid}
 use Rattle.prod_model.proofs.ExprBoundsLaws.{bounds_laws, nesting_laws}
 use Rattle.prod_model.proofs.Forms.{range, words, part, shared, root_type, subtype}
 use Rattle.prod_model.proofs.Models.{rack, two_ports}
@@ -15,7 +15,7 @@ use Rattle.prod_model.proofs.Models.{rack, two_ports}
 -- ---- valid models
 
 rack_is_valid : IsValid rack
-unfolding is_name is_word is_a is_forest attributes_of ports_of has_short_lists has_formed_names has_distinct_names has_numbers_in_limits has_known_types has_one_bound_each has_known_parents_and_targets has_narrowings has_room has_faultless_rules
+unfolding is_name is_word is_a is_forest attributes_of ports_of has_short_lists has_formed_names has_distinct_names has_numbers_in_limits has_known_types has_one_bound_each has_known_parents_and_targets has_narrowings has_room has_faultless_rules has_right_inverses inverse_of
 rack_is_valid = record {
   declared = record {
     formed = record { short_lists = refl; formed_names = refl; distinct_names = refl; numbers_in_limits = refl };
@@ -24,10 +24,11 @@ rack_is_valid = record {
     taxonomy = record { known_parents = refl; forest = refl; narrowings = refl; room = refl };
   };
   faultless_rules = simp (bounds_laws, nesting_laws);
+  right_inverses = refl;
 }
 
 two_ports_is_valid : IsValid two_ports
-unfolding is_name is_word is_a is_forest attributes_of ports_of has_short_lists has_formed_names has_distinct_names has_numbers_in_limits has_known_types has_one_bound_each has_known_parents_and_targets has_narrowings has_room has_faultless_rules
+unfolding is_name is_word is_a is_forest attributes_of ports_of has_short_lists has_formed_names has_distinct_names has_numbers_in_limits has_known_types has_one_bound_each has_known_parents_and_targets has_narrowings has_room has_faultless_rules has_right_inverses inverse_of
 two_ports_is_valid = record {
   declared = record {
     formed = record { short_lists = refl; formed_names = refl; distinct_names = refl; numbers_in_limits = refl };
@@ -36,6 +37,7 @@ two_ports_is_valid = record {
     taxonomy = record { known_parents = refl; forest = refl; narrowings = refl; room = refl };
   };
   faultless_rules = refl;
+  right_inverses = refl;
 }
 
 -- ---- the demands that a model breaks
@@ -45,7 +47,7 @@ named name holds = if holds then [] else name ∷ []
 
 -- The names of the broken demands.
 unfoldable pub broken : Model → List (List ℕ)
-unfolding is_name is_word is_a is_forest attributes_of ports_of has_short_lists has_formed_names has_distinct_names has_numbers_in_limits has_known_types has_one_bound_each has_known_parents_and_targets has_narrowings has_room has_faultless_rules
+unfolding is_name is_word is_a is_forest attributes_of ports_of has_short_lists has_formed_names has_distinct_names has_numbers_in_limits has_known_types has_one_bound_each has_known_parents_and_targets has_narrowings has_room has_faultless_rules has_right_inverses inverse_of
 broken m =
     named (codes "short lists") (has_short_lists m)
     ++ named (codes "formed names") (has_formed_names m)
@@ -58,6 +60,7 @@ broken m =
     ++ named (codes "narrowings") (has_narrowings m)
     ++ named (codes "room") (has_room m)
     ++ named (codes "faultless rules") (has_faultless_rules m)
+    ++ named (codes "right inverses") (has_right_inverses m)
 
 -- a model of these types, with nothing else
 abbrev pub of_types : List TypeDecl → Model

@@ -14,7 +14,7 @@ use Rattle.prod_model.specs.declared.expr.Expr.TheOpen.{Expr-F, Num, Attr, Count
 use Rattle.prod_model.specs.declared.expr.Expr.TheFolds.{fold-Expr}
 use Rattle.prod_model.specs.Limits.{is_within, is_between, farthest_bound, most_arguments, most_nesting}
 use Rattle.prod_model.specs.Forest.{is_type}
-use Rattle.prod_model.specs.Taxonomy.{attribute_of, port_of, first_words}
+use Rattle.prod_model.specs.Taxonomy.{attribute_of, declared_port_of, first_words}
 use Rattle.prod_model.specs.Nesting.{nesting}
 
 -- a number between two bounds, and nothing where one of them leaves the limits
@@ -93,12 +93,14 @@ has_arguments args = is_between 1 most_arguments (length args)
 abbrev pub layer_bounds : Model → Expr-F (ℕ → Option Bounds) → ℕ → Option Bounds
 layer_bounds m (Num n) t = bounded n n
 layer_bounds m (Attr a) t = option_and_then (of_range bounded) (attribute_of m t a)
-layer_bounds m (Count p) t = option_map (λ q. number (pos q.low) (pos q.high)) (port_of m t p)
+layer_bounds m (Count p) t =
+    option_map (λ q. number (pos q.low) (pos q.high)) (declared_port_of m t p)
 layer_bounds m (CountOf p u) t =
-    if is_type m u then option_map (λ q. number (pos 0) (pos q.high)) (port_of m t p) else None
+    if is_type m u then option_map (λ q. number (pos 0) (pos q.high)) (declared_port_of m t p)
+    else None
 layer_bounds m (Sum p a) t =
     option_and_then (λ q. option_and_then (of_range (sum_of_some q.low q.high))
-    (attribute_of m q.target a)) (port_of m t p)
+    (attribute_of m q.target a)) (declared_port_of m t p)
 layer_bounds m (Total u a) t =
     option_and_then (of_range (sum_of_some 0 m.instances)) (attribute_of m u a)
 layer_bounds m (Number u) t = if is_type m u then Some (number (pos 0) (pos m.instances)) else None
@@ -114,8 +116,10 @@ layer_bounds m (And args) t = if has_arguments args then truth_of (map (λ e. e 
 layer_bounds m (Or args) t = if has_arguments args then truth_of (map (λ e. e t) args) else None
 layer_bounds m (Not e) t = truth_of (e t ∷ [])
 layer_bounds m (If e f) t = truth_of (e t ∷ f t ∷ [])
-layer_bounds m (All p e) t = option_and_then (λ q. truth_of (e q.target ∷ [])) (port_of m t p)
-layer_bounds m (Any p e) t = option_and_then (λ q. truth_of (e q.target ∷ [])) (port_of m t p)
+layer_bounds m (All p e) t =
+    option_and_then (λ q. truth_of (e q.target ∷ [])) (declared_port_of m t p)
+layer_bounds m (Any p e) t =
+    option_and_then (λ q. truth_of (e q.target ∷ [])) (declared_port_of m t p)
 
 -- What the expression is at a type. It is nothing where a name that it uses isn't one there, a
 -- number stands where a truth is needed or the reverse, or the bounds of one of its parts leave the

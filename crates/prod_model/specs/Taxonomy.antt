@@ -1,7 +1,7 @@
 -- What each type has of attributes and ports, inherited ones included.
-use Rattle.std.specs.Prelude.{ℕ, ◌+◌, Bool, not, ◌==◌, List, [], ◌∷◌, ◌++◌, map, length, reverse, slice_get, sum_by}
+use Rattle.std.specs.Prelude.{◌≡◌, ℕ, ◌+◌, Bool, not, ◌==◌, List, [], ◌∷◌, ◌++◌, map, length, reverse, slice_get, sum_by, None}
 use Rattle.std.specs.declared.option.Option.{Option}
-use Rattle.std.specs.Option.{option_map_or}
+use Rattle.std.specs.Option.{option_map_or, option_map, option_and_then}
 use Rattle.std.specs.List.{list_any, filter, find, flat_map, fold, range_with_len}
 use Rattle.prod_model.specs.declared.model.Model.{Model}
 use Rattle.prod_model.specs.declared.model.TypeDecl.{TypeDecl}
@@ -81,16 +81,24 @@ module _ {D A : Type 0} (declared : TypeDecl → List D) (name_of : D → List �
 abbrev pub made_attribute : ℕ → AttrDecl → AttrAt
 made_attribute id d = record { id = id; domain = d.domain }
 
--- the port of a new declaration
+-- the port of a declaration, without its inverse
 abbrev pub made_port : ℕ → PortDecl → PortAt
-made_port id d = record { id = id; kind = d.kind; target = d.target; low = d.low; high = d.high }
+made_port id d = record {
+  id = id;
+  kind = d.kind;
+  target = d.target;
+  low = d.low;
+  high = d.high;
+  inverse = None;
+}
 
 -- the attributes of a type under their names, inherited ones first: a narrowing keeps the id
 unfoldable pub attributes_of : List TypeDecl → ℕ → List (Named AttrAt)
 attributes_of =
     entries_of (λ d. d.attributes) (λ d. d.name) made_attribute (λ d a. made_attribute a.id d)
 
--- the ports of a type under their names, inherited ones first: a narrowing keeps the id
+-- the ports of a type under their names as they are declared, without their inverses: inherited
+-- ones first, and a narrowing keeps the id
 unfoldable pub ports_of : List TypeDecl → ℕ → List (Named PortAt)
 ports_of = entries_of (λ d. d.ports) (λ d. d.name) made_port (λ d p. made_port p.id d)
 
@@ -98,9 +106,37 @@ ports_of = entries_of (λ d. d.ports) (λ d. d.name) made_port (λ d p. made_por
 abbrev pub attributes_at : Model → ℕ → List AttrAt
 attributes_at m t = map (λ a. a.what) (attributes_of m.types t)
 
--- the ports of a type, inherited ones first
+-- the ports of a type as they are declared, inherited ones first
+abbrev pub declared_ports_at : Model → ℕ → List PortAt
+declared_ports_at m t = map (λ p. p.what) (ports_of m.types t)
+
+-- ---- inverses
+
+-- the port that a type has under a name, as it is declared
+abbrev pub port_named : Model → ℕ → List ℕ → Option PortAt
+port_named m t name =
+    option_map (λ e. e.what) (find (λ e. same_text e.name name) (ports_of m.types t))
+
+-- the id of the port that a declaration names as its inverse: its target has it under that name
+abbrev pub named_inverse : Model → PortDecl → Option ℕ
+named_inverse m d =
+    option_and_then (λ name. option_map (λ q. q.id) (port_named m d.target name)) d.inverse
+
+-- The id of a port's inverse, which the port's first declaration names. So a narrowing keeps it.
+unfoldable pub inverse_of : Model → ℕ → Option ℕ
+inverse_of m id =
+    option_and_then (named_inverse m)
+    (slice_get (all_new_declarations (λ d. d.ports) (λ d. d.name) m.types) id)
+
+-- a port with its inverse
+abbrev pub with_inverse : Model → PortAt → PortAt
+with_inverse m p = record p { inverse = inverse_of m p.id }
+
+-- the ports of a type with their inverses, inherited ones first
 abbrev pub ports_at : Model → ℕ → List PortAt
-ports_at m t = map (λ p. p.what) (ports_of m.types t)
+ports_at m t = map (with_inverse m) (declared_ports_at m t)
+
+-- ---- the tables
 
 -- the attributes and ports of each type
 unfoldable pub tables_of : Model → Tables
@@ -108,6 +144,23 @@ tables_of m = record {
   attributes = map (attributes_at m) (type_numbers m.types);
   ports = map (ports_at m) (type_numbers m.types);
 }
+
+-- the attributes and ports of each type as they are declared, without the inverses of ports
+unfoldable pub declared_tables_of : Model → Tables
+declared_tables_of m = record {
+  attributes = map (attributes_at m) (type_numbers m.types);
+  ports = map (declared_ports_at m) (type_numbers m.types);
+}
+
+-- a port without its inverse
+abbrev pub without_inverse : PortAt → PortAt
+without_inverse p = record p { inverse = None }
+
+-- The tables are those of the model. Inverses aren't compared, so that tables without them are the
+-- model's too.
+pub record AreTablesOf (m : Model) (tables : Tables) : Type 0 where
+  pub attributes : tables.attributes ≡ (declared_tables_of m).attributes
+  pub ports : map (map without_inverse) tables.ports ≡ (declared_tables_of m).ports
 
 -- the words of a domain, and none where it is a range
 abbrev pub words_of : Domain → List (List ℕ)
@@ -127,3 +180,7 @@ attribute_of m t id = find (λ a. a.id == id) (attributes_at m t)
 -- the port that a type has under an id
 abbrev pub port_of : Model → ℕ → ℕ → Option PortAt
 port_of m t id = find (λ p. p.id == id) (ports_at m t)
+
+-- the port that a type has under an id, as it is declared
+abbrev pub declared_port_of : Model → ℕ → ℕ → Option PortAt
+declared_port_of m t id = find (λ p. p.id == id) (declared_ports_at m t)

@@ -1,5 +1,5 @@
 -- Which models are valid, and which orders are valid for a model.
-use Rattle.std.specs.Prelude.{ℕ, int_le, Bool, true, false, ◌&&◌, nat_le, IsTrue, List, ◌++◌, map, length, is_none, sum_by}
+use Rattle.std.specs.Prelude.{ℕ, int_le, Bool, true, false, not, ◌==◌, ◌&&◌, nat_le, IsTrue, List, ◌++◌, map, length, is_none, sum_by}
 use Rattle.std.specs.declared.option.Option.{Option}
 use Rattle.std.specs.Option.{option_map_or, option_and_then, option_map}
 use Rattle.std.specs.List.{list_any, list_all, find}
@@ -17,7 +17,7 @@ use Rattle.prod_model.specs.Limits
 use Rattle.prod_model.specs.Limits.{is_within, is_between}
 use Rattle.prod_model.specs.Names.{is_name, is_word, same_text, is_distinct, is_distinct_number}
 use Rattle.prod_model.specs.Forest.{is_type, is_a, is_forest, type_numbers}
-use Rattle.prod_model.specs.Taxonomy.{Named, attributes_of, ports_of, attributes_at, ports_at, words_of}
+use Rattle.prod_model.specs.Taxonomy.{Named, declarations_of, is_declared_above, attributes_of, ports_of, attributes_at, declared_ports_at, words_of, port_named, inverse_of}
 use Rattle.prod_model.specs.ExprBounds.{is_truth_at, is_number_at}
 
 -- ---- each declaration by itself
@@ -167,7 +167,7 @@ has_narrowings m = list_all (has_narrowings_of m) m.types
 abbrev pub has_room_at : Model → ℕ → Bool
 has_room_at m t =
     nat_le (length (attributes_at m t)) Limits.most_attributes_of_type
-    && nat_le (length (ports_at m t)) Limits.most_ports_of_type
+    && nat_le (length (declared_ports_at m t)) Limits.most_ports_of_type
 
 -- No type has too many attributes or ports.
 unfoldable pub has_room : Model → Bool
@@ -190,17 +190,47 @@ has_one_bound_each m = is_distinct_number (map (λ b. b.kind) m.bounds)
 unfoldable pub has_faultless_rules : Model → Bool
 has_faultless_rules m = list_all (λ r. is_truth_at m r.kind r.holds) m.rules
 
--- all that a product model has to be, but for its rules
+-- all that a product model has to be, but for its rules and its inverses
 pub record IsDeclared (m : Model) : Type 0 where
   pub formed : IsFormed m
   pub known_types : IsTrue (has_known_types m)
   pub one_bound_each : IsTrue (has_one_bound_each m)
   pub taxonomy : IsTaxonomy m
 
+-- both are parts
+abbrev pub are_parts : PortKind → PortKind → Bool
+are_parts Part Part = true
+are_parts _ _ = false
+
+-- The port of the target names the declared port of type t back: the inverse that its own first
+-- declaration names is the declared port. And they are not both parts.
+abbrev pub is_named_back : Model → ℕ → PortDecl → PortAt → Bool
+is_named_back m t d q =
+    option_map_or (λ p. option_map_or (λ id. id == p.id) (inverse_of m q.id) false)
+    (port_named m t d.name) false
+    && not (are_parts d.kind q.kind)
+
+-- A declaration of type t that names an inverse is new there, and its target has a port of that
+-- name, which names it back.
+abbrev pub has_right_inverse : Model → ℕ → PortDecl → Bool
+has_right_inverse m t d =
+    option_map_or (λ name. not (is_declared_above (λ d. d.ports) (λ d. d.name) m.types t d.name)
+    && option_map_or (is_named_back m t d) (port_named m d.target name) false) d.inverse true
+
+-- the declarations of ports of a type
+abbrev pub port_declarations : Model → ℕ → List PortDecl
+port_declarations m t = declarations_of (λ d. d.ports) (λ d. d.name) m.types t
+
+-- Ports are each other's inverse where one names the other.
+unfoldable pub has_right_inverses : Model → Bool
+has_right_inverses m =
+    list_all (λ t. list_all (has_right_inverse m t) (port_declarations m t)) (type_numbers m.types)
+
 -- all that a product model has to be
 pub record IsValid (m : Model) : Type 0 where
   pub declared : IsDeclared m
   pub faultless_rules : IsTrue (has_faultless_rules m)
+  pub right_inverses : IsTrue (has_right_inverses m)
 
 -- an order without fault, for a valid model
 pub record IsValidOrder (m : Model) (o : Order) : Type 0 where

@@ -22,6 +22,15 @@ impl<T: Copies> Copies for Items<T> {
     }
 }
 
+impl<T: Copies> Copies for Option<T> {
+    fn copy(&self, alloc: Global) -> Result<Option<T>, AllocError> {
+        match self {
+            Some(value) => Ok(Some(value.copy(alloc)?)),
+            None => Ok(None),
+        }
+    }
+}
+
 pub(crate) fn copy_slice<T: Copies>(alloc: Global, items: &[T]) -> Result<Items<T>, AllocError>
     ensures { IfOk result (λ c. c ≡ items.now) }
 {
@@ -67,6 +76,7 @@ impl Copies for PortDecl {
             target: self.target,
             low: self.low,
             high: self.high,
+            inverse: self.inverse.copy(alloc)?,
         })
     }
 }

@@ -68,7 +68,7 @@ pub struct AttrDecl {
 }
 
 /// A declaration in a type. It is new there, or narrows the inherited port of its name, and keeps
-/// its id.
+/// its id and its inverse.
 #[derive(Drop)]
 pub struct PortDecl {
     pub name: Name,
@@ -79,6 +79,9 @@ pub struct PortDecl {
     pub low: u32,
     /// The greatest number of links, `low` to 64.
     pub high: u32,
+    /// The name of the target's port that links back wherever this one links, if there is one. Only
+    /// a new declaration may have it.
+    pub inverse: Option<Name>,
 }
 
 /// A type, with what its own entry in the file declares.
@@ -209,6 +212,9 @@ pub struct PortAt {
     pub low: u32,
     /// The greatest number of links, `low` to 64.
     pub high: u32,
+    /// The id of its inverse, if it has one: where an instance links another by this port, the other
+    /// links it by that one.
+    pub inverse: Option<u32>,
 }
 
 /// The attributes and ports of each type, inherited ones first. Row t is that of the type of number

@@ -11,6 +11,7 @@ use crate::copies::Copies;
 use crate::model::{self, AttrAt, PortAt, Tables};
 use crate::name::Name;
 use crate::same::Same;
+use crate::tables::{find_port, row};
 use crate::type_masks::TypeMasks;
 use sqlite_items::Items;
 use std::alloc::{AllocError, Global};
@@ -121,10 +122,11 @@ impl Problem {
     }
 
     /// The port that type `t` has under the id. A number that is no type has nothing.
+    #[tactic(auto, using(crate::proofs::Rows::ports_row))]
     pub fn port_of(&self, t: u32, id: u32) -> Option<&PortAt>
         ensures { option_copied result ≡ port_at self.now t id }
     {
-        self.tables.port_of(&self.model, t, id)
+        find_port(row(&self.tables.ports, t), id)
     }
 
     /// The words of the first declaration of an attribute that type `t` has, and none where it is

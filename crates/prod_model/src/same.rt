@@ -20,6 +20,16 @@ impl<T: Same> Same for Items<T> {
     }
 }
 
+impl<T: Same> Same for Option<T> {
+    fn same(&self, other: &Option<T>) -> bool {
+        match (self, other) {
+            (Some(value), Some(other_value)) => value.same(other_value),
+            (None, None) => true,
+            _ => false,
+        }
+    }
+}
+
 fn same_slices<T: Same>(a: &[T], b: &[T]) -> bool
     ensures { IsTrue result ↔ (a.now ≡ b.now) }
 {
@@ -75,6 +85,7 @@ impl Same for PortDecl {
             && self.target == other.target
             && self.low == other.low
             && self.high == other.high
+            && self.inverse.same(&other.inverse)
     }
 }
 

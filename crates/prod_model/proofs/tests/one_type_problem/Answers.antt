@@ -8,12 +8,12 @@ use Rattle.prod_model.specs.declared.model.AttrAt.{AttrAt}
 use Rattle.prod_model.specs.declared.model.PortAt.{PortAt}
 use Rattle.prod_model.specs.Names.{is_name, is_word}
 use Rattle.prod_model.specs.Forest.{is_forest}
-use Rattle.prod_model.specs.Taxonomy.{tables_of, attributes_of, ports_of}
-use Rattle.prod_model.specs.Valid.{IsValid, has_short_lists, has_formed_names, has_distinct_names, has_numbers_in_limits, has_known_parents_and_targets, has_known_types, has_narrowings, has_room, has_one_bound_each, has_faultless_rules}
+use Rattle.prod_model.specs.Taxonomy.{tables_of, attributes_of, ports_of, inverse_of}
+use Rattle.prod_model.specs.Valid.{IsValid, has_short_lists, has_formed_names, has_distinct_names, has_numbers_in_limits, has_known_parents_and_targets, has_known_types, has_narrowings, has_room, has_one_bound_each, has_faultless_rules, has_right_inverses}
 use Rattle.prod_model.proofs.tests.one_type_problem.Goals as goal
 
 computing : Unit {0}
-unfolding is_forest attributes_of ports_of tables_of is_name is_word has_short_lists has_formed_names has_distinct_names has_numbers_in_limits has_known_parents_and_targets has_known_types has_narrowings has_room has_one_bound_each has_faultless_rules
+unfolding is_forest attributes_of ports_of tables_of is_name is_word has_short_lists has_formed_names has_distinct_names has_numbers_in_limits has_known_parents_and_targets has_known_types has_narrowings has_room has_one_bound_each has_faultless_rules has_right_inverses inverse_of
 computing = tt
 
 abbrev one_type : List TypeDecl
@@ -32,6 +32,7 @@ is_valid = record {
     taxonomy = record { known_parents = refl; forest = refl; narrowings = refl; room = refl };
   };
   faultless_rules = refl;
+  right_inverses = refl;
 }
 
 valid_at : (types : List TypeDecl) (bounds : List CountBound) (rules : List Rule) → types ≡ one_type → bounds ≡ [] → rules ≡ [] → IsValid (model_of types bounds rules)
