@@ -17,7 +17,7 @@ use Rattle.prod_model.specs.declared.expr.Expr.TheViews.{roll-Expr}
 use Rattle.prod_model.specs.declared.expr.Expr.TheFolds.{ind-Expr}
 use Rattle.prod_model.specs.declared.expr.Relation.{Relation}
 use Rattle.prod_model.specs.Forest.{is_a, is_type}
-use Rattle.prod_model.specs.Taxonomy.{attribute_of, port_of}
+use Rattle.prod_model.specs.Taxonomy.{attribute_of, declared_port_of}
 use Rattle.prod_model.specs.ExprBounds.{bounds_at, bounded, sum_of_some, truth_of, of_range, has_arguments}
 use Rattle.prod_model.specs.steps.ExprBounds.{sum_onto}
 use Rattle.prod_model.specs.Valid.{IsDeclared}
@@ -80,7 +80,7 @@ module _ (m : Model) (c : List Instance) (is : IsDeclared m) (s : HasShape m c) 
   -- the number of a port's links is within its pair
   held_count : (p : ℕ) → IsHeld (roll-Expr (Count p))
   held_count p i t x at below = held_by (roll-Expr (Count p)) i t _ _ (bounds_at_Count m t p) (value_at_Count m c i p) (λ b told.
-      let port = map_some (λ q. bounds.Number (pos q.low) (pos q.high)) (port_of m t p) b told in
+      let port = map_some (λ q. bounds.Number (pos q.low) (pos q.high)) (declared_port_of m t p) b told in
       let links = held_links m c is s i x at t below p port.0 port.1 in
       subst (λ b. IsWithinBounds b (found.Number (pos (length (links_at_instance m c p i))))) port.2
       (omega (arith, ints, links.number.0), omega (arith, ints, links.number.1)))
@@ -88,7 +88,7 @@ module _ (m : Model) (c : List Instance) (is : IsDeclared m) (s : HasShape m c) 
   -- no more of a port's links lead to a type than the port allows
   held_count_of : (p u : ℕ) → IsHeld (roll-Expr (CountOf p u))
   held_count_of p u i t x at below = held_by (roll-Expr (CountOf p u)) i t _ _ (bounds_at_CountOf m t p u) (value_at_CountOf m c i p u) (λ b told.
-      let port = map_some (λ q. bounds.Number (pos 0) (pos q.high)) (port_of m t p) b (if_some (is_type m u) _ b told) in
+      let port = map_some (λ q. bounds.Number (pos 0) (pos q.high)) (declared_port_of m t p) b (if_some (is_type m u) _ b told) in
       let links = held_links m c is s i x at t below p port.0 port.1 in
       let few = count_by-le-length (is_under m c u) (links_at_instance m c p i) in
       subst (λ b. IsWithinBounds b (found.Number (pos (count_by (is_under m c u) (links_at_instance m c p i))))) port.2
@@ -97,7 +97,7 @@ module _ (m : Model) (c : List Instance) (is : IsDeclared m) (s : HasShape m c) 
   -- the sum of an attribute's values over a port's links
   held_sum : (p a : ℕ) → IsHeld (roll-Expr (Sum p a))
   held_sum p a i t x at below = held_by (roll-Expr (Sum p a)) i t _ _ (bounds_at_Sum m t p a) (value_at_Sum m c i p a) (λ b told.
-      let port = and_then_some (λ q. option_and_then (of_range (sum_of_some q.low q.high)) (attribute_of m q.target a)) (port_of m t p) b told in
+      let port = and_then_some (λ q. option_and_then (of_range (sum_of_some q.low q.high)) (attribute_of m q.target a)) (declared_port_of m t p) b told in
       let q = port.0 in
       let attribute = and_then_some (of_range (sum_of_some q.low q.high)) (attribute_of m q.target a) b port.2 in
       let links = held_links m c is s i x at t below p q port.1 in
@@ -177,9 +177,9 @@ module _ (m : Model) (c : List Instance) (is : IsDeclared m) (s : HasShape m c) 
   held_if e f = held_truth (roll-Expr (If e f)) _ _ (λ i. value_at_If m c i e f) (λ t. bounds_at_If m t e f) (λ t b told. truth_told (bounds_at m e t ∷ bounds_at m f t ∷ []) b told)
 
   -- what is told of all links of a port, or of any, is a truth
-  linked_told : (p : ℕ) (e : Expr) (t : ℕ) (b : Bounds) → option_and_then (λ q. truth_of (bounds_at m e q.target ∷ [])) (port_of m t p) ≡ Some b → bounds.Truth ≡ b
+  linked_told : (p : ℕ) (e : Expr) (t : ℕ) (b : Bounds) → option_and_then (λ q. truth_of (bounds_at m e q.target ∷ [])) (declared_port_of m t p) ≡ Some b → bounds.Truth ≡ b
   linked_told p e t b told =
-      let port = and_then_some (λ q. truth_of (bounds_at m e q.target ∷ [])) (port_of m t p) b told in
+      let port = and_then_some (λ q. truth_of (bounds_at m e q.target ∷ [])) (declared_port_of m t p) b told in
       truth_told (bounds_at m e port.0.target ∷ []) b port.2
 
   -- what an expression tells at all links of a port is a truth

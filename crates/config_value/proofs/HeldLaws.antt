@@ -10,14 +10,14 @@ use Rattle.prod_model.specs.declared.model.PortAt.{PortAt}
 use Rattle.prod_model.specs.declared.model.Domain.{Domain}
 use Rattle.prod_model.specs.declared.model.Domain.TheVariants.{Range, Words}
 use Rattle.prod_model.specs.Forest.{is_a}
-use Rattle.prod_model.specs.Taxonomy.{attribute_of, port_of, attributes_at, ports_at, first_words}
+use Rattle.prod_model.specs.Taxonomy.{attribute_of, declared_port_of, attributes_at, declared_ports_at, ports_at, first_words}
 use Rattle.prod_model.specs.Valid.{IsDeclared}
 use Rattle.config_value.specs.declared.configuration.Instance.{Instance}
 use Rattle.config_value.specs.Value.{value_of, links_of, value_at_instance, links_at_instance}
 use Rattle.base_laws.specs.Places.{IsAt}
 use Rattle.config_value.specs.ShapedSentences.{IsBetween, IsInstanceUnder, IsValueOf, HasShape}
 use Rattle.base_laws.proofs.Places.{IsFirstAt, find_place, position_is}
-use Rattle.prod_model.proofs.NarrowingLaws.{IsRangeWithin, IsAttributeWithin, IsPortWithin, attributes_narrow, ports_narrow}
+use Rattle.prod_model.proofs.NarrowingLaws.{IsRangeWithin, IsAttributeWithin, IsPortWithin, attributes_narrow, declared_ports_narrow}
 
 -- where the domain is a range, the value is in it
 abbrev pub IsInRange : Domain → ℤ → Type 0
@@ -56,11 +56,11 @@ module _ (m : Model) (c : List Instance) (is : IsDeclared m) (s : HasShape m c) 
       (s.values i first.place x first.there v at first.stands stands))
 
   -- the links of a port of the type are as many as the port allows there, and lead to instances under its target
-  pub held_links : (id : ℕ) (p : PortAt) → port_of m t id ≡ Some p → AreHeldLinks m c p (links_at_instance m c id i)
+  pub held_links : (id : ℕ) (p : PortAt) → declared_port_of m t id ≡ Some p → AreHeldLinks m c p (links_at_instance m c id i)
   held_links id p found =
       let first : IsFirstAt (λ q. q.id == id) (IsPortWithin m) p (ports_at m x.kind) =
-      find_place (λ q. q.id == id) (IsPortWithin m) (λ p q within. ap (λ n. n == id) within.same_id) (ports_at m t) (ports_at m x.kind) p found
-      (ports_narrow m is x.kind t under) in
+      find_place (λ q. q.id == id) (IsPortWithin m) (λ p q within. ap (λ n. n == id) within.same_id) (declared_ports_at m t) (ports_at m x.kind) p found
+      (declared_ports_narrow m is x.kind t under) in
       let ls = get_or x.links first.place [] in
       let stands : IsAt x.links first.place ls = there_is x.links (ports_at m x.kind) first.place first.there (s.built i x at).each_port first.stands [] in
       let links : links_at_instance m c id i ≡ ls =

@@ -1,5 +1,6 @@
 pub mod ConflictLaws
 pub mod ShapedParts
+pub mod LinksBack
 pub mod KeyLaws
 pub mod RankLaws
 pub mod Places

@@ -10,7 +10,7 @@ use Rattle.prod_model.proofs.Models.{two_ports, asks}
 use Rattle.config_value.specs.declared.configuration.Instance.{Instance}
 use Rattle.config_value.specs.Value.{under, is_true_at}
 use Rattle.config_value.specs.Satisfies.{satisfies, follows_rules, meets, meets_kept, IsCandidate}
-use Rattle.config_value.specs.Shaped.{is_shaped, has_leaf_types, has_root, has_size, has_values, has_links, has_single_parts, has_counts}
+use Rattle.config_value.specs.Shaped.{is_shaped, has_leaf_types, has_root, has_size, has_values, has_links, has_single_parts, has_links_back, has_counts}
 use Rattle.config_value.specs.Numbered.{is_numbered}
 use Rattle.config_value.specs.Conflict.{IsConflict, IsAntilexSmaller, IsPreferredConflict}
 use Rattle.config_value.proofs.ShapedExamples.{broken}
@@ -86,7 +86,7 @@ root_of : (m : Model) (c : List Instance) → IsTrue (is_shaped m c) → IsTrue 
 unfolding is_shaped
 root_of m c h =
     second (has_leaf_types m c) (has_root m c)
-    (first _ (has_size m c) (first _ (has_values m c) (first _ (has_links m c) (first _ (has_single_parts m c) (first _ (has_counts m c) h)))))
+    (first _ (has_size m c) (first _ (has_values m c) (first _ (has_links m c) (first _ (has_single_parts m c) (first _ (has_links_back m c) (first _ (has_counts m c) h))))))
 
 -- The rule is broken at instance 0, which is a rack.
 nothing_satisfies : (c : List Instance) → ¬ IsTrue (satisfies never c)

@@ -2,10 +2,10 @@
 use Rattle.std.specs.Prelude.{◌≡◌, ℕ, ℤ, pos, neg_ℤ, true, false, Bool, List, [], ◌∷◌, ◌++◌, codes, map, replicate, if◌then◌else◌, refl}
 use Rattle.prod_model.specs.declared.model.Model.{Model}
 use Rattle.prod_model.specs.Forest.{is_a, is_leaf}
-use Rattle.prod_model.specs.Taxonomy.{attributes_of, ports_of, first_words}
+use Rattle.prod_model.specs.Taxonomy.{attributes_of, ports_of, inverse_of, first_words}
 use Rattle.config_value.specs.declared.configuration.Instance.{Instance}
-use Rattle.config_value.specs.Shaped.{is_shaped, has_leaf_types, has_root, has_size, has_values, has_links, has_single_parts, has_counts}
-use Rattle.prod_model.proofs.Forms.{range, words, part, shared, root_type, subtype}
+use Rattle.config_value.specs.Shaped.{is_shaped, has_leaf_types, has_root, has_size, has_values, has_links, has_single_parts, has_links_back, has_counts}
+use Rattle.prod_model.proofs.Forms.{range, words, part, shared, with_inverse, root_type, subtype}
 use Rattle.config_value.proofs.Products.{instance}
 
 abbrev named : List ℕ → Bool → List (List ℕ)
@@ -13,7 +13,7 @@ named name holds = if holds then [] else name ∷ []
 
 -- The names of the broken sentences.
 unfoldable pub broken : Model → List Instance → List (List ℕ)
-unfolding has_leaf_types has_root has_size has_values has_links has_single_parts has_counts is_a is_leaf attributes_of ports_of first_words
+unfolding has_leaf_types has_root has_size has_values has_links has_single_parts has_links_back has_counts is_a is_leaf attributes_of ports_of inverse_of first_words
 broken m c =
     named (codes "leaf types") (has_leaf_types m c)
     ++ named (codes "root") (has_root m c)
@@ -21,6 +21,7 @@ broken m c =
     ++ named (codes "values") (has_values m c)
     ++ named (codes "links") (has_links m c)
     ++ named (codes "single parts") (has_single_parts m c)
+    ++ named (codes "links back") (has_links_back m c)
     ++ named (codes "counts") (has_counts m c)
 
 -- the name, if only that sentence is broken
@@ -92,7 +93,7 @@ other_values = refl
 other_ports : map (broken shop) (
     (rack_with (1 ∷ []) [] [] ∷ small ∷ instance 5 [] [] ∷ [])
     ∷ (rack_with (1 ∷ []) [] [] ∷ small ∷ instance 5 [] ([] ∷ [] ∷ []) ∷ [])
-    ∷ []) ≡ replicate 2 (codes "leaf types" ∷ codes "links" ∷ [])
+    ∷ []) ≡ replicate 2 (codes "leaf types" ∷ codes "links" ∷ codes "links back" ∷ [])
 unfolding broken
 other_ports = refl
 
@@ -214,6 +215,48 @@ circles : map (broken (record shop { instances = 7; bounds = [] })) (
     ∷ []) ≡ [] ∷ [] ∷ []
 unfolding broken
 circles = refl
+
+-- ---- links back
+
+-- A rack holds up to two cards, and a card knows the rack that it is in: the ports are each other's inverse. So are two ports
+-- of nodes, of which each links the next and the one before, and a port by which nodes link each other.
+abbrev inverses : Model
+inverses = record shop {
+  root = 0;
+  bounds = [];
+  types =
+      root_type (codes "Rack") [] (with_inverse (codes "home") (part (codes "cards") 1 0 2) ∷ [])
+      ∷ root_type (codes "Card") [] (with_inverse (codes "cards") (shared (codes "home") 0 1 1) ∷ [])
+      ∷ root_type (codes "Node") [] (with_inverse (codes "peers") (shared (codes "peers") 2 0 3) ∷ [])
+      ∷ [];
+}
+
+abbrev rack_holding : List ℕ → Instance
+rack_holding cards = instance 0 [] (cards ∷ [])
+
+abbrev card_in : ℕ → Instance
+card_in rack = instance 1 [] ((rack ∷ []) ∷ [])
+
+abbrev node : List ℕ → Instance
+node peers = instance 2 [] (peers ∷ [])
+
+-- Each card links the rack that holds it; and in turn, a card's rack holds it. A card that links another rack breaks both ways.
+linked_back : map (broken inverses) (
+    (rack_holding (1 ∷ 2 ∷ []) ∷ card_in 0 ∷ card_in 0 ∷ [])
+    ∷ (rack_holding (1 ∷ []) ∷ card_in 2 ∷ rack_holding [] ∷ [])
+    ∷ (rack_holding [] ∷ card_in 0 ∷ [])
+    ∷ (rack_holding (1 ∷ []) ∷ card_in 0 ∷ rack_holding (3 ∷ []) ∷ card_in 2 ∷ [])
+    ∷ []) ≡ [] ∷ only (codes "links back") ∷ only (codes "links back") ∷ [] ∷ []
+unfolding broken
+linked_back = refl
+
+-- Nodes that link each other by a port that is its own inverse, and perhaps themselves, and one that isn't linked back.
+peers : map (broken (record inverses { root = 2 })) (
+    (node (1 ∷ 2 ∷ []) ∷ node (0 ∷ []) ∷ node (0 ∷ 2 ∷ []) ∷ [])
+    ∷ (node (1 ∷ 2 ∷ []) ∷ node (0 ∷ []) ∷ node (2 ∷ []) ∷ [])
+    ∷ []) ≡ [] ∷ only (codes "links back") ∷ []
+unfolding broken
+peers = refl
 
 -- ---- counts
 

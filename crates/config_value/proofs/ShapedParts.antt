@@ -1,4 +1,4 @@
--- The seven tests of a shaped configuration, each by its name, and what the first says of an instance.
+-- The eight tests of a shaped configuration, each by its name, and what the first says of an instance.
 use Rattle.std.proofs.Common.{◌==◌, List, length, eqb-true, eq-eqb}
 use Rattle.std.proofs.lemmas.Bool.{and_parts, and_from}
 use Rattle.std.specs.Prelude.{Bool, ◌&&◌, IsTrue}
@@ -6,7 +6,7 @@ use Rattle.prod_model.specs.declared.model.Model.{Model}
 use Rattle.prod_model.specs.Forest.{is_leaf}
 use Rattle.prod_model.specs.Taxonomy.{attributes_at, ports_at}
 use Rattle.config_value.specs.declared.configuration.Instance.{Instance}
-use Rattle.config_value.specs.Shaped.{is_shaped, has_leaf_types, has_root, has_size, has_values, has_links, has_single_parts, has_counts}
+use Rattle.config_value.specs.Shaped.{is_shaped, has_leaf_types, has_root, has_size, has_values, has_links, has_single_parts, has_links_back, has_counts}
 use Rattle.config_value.specs.ShapedSentences.{IsBuilt}
 
 -- it passes each test
@@ -17,13 +17,15 @@ pub record PassesEach (m : Model) (c : List Instance) : Type 0 where
   pub values : IsTrue (has_values m c)
   pub links : IsTrue (has_links m c)
   pub single_parts : IsTrue (has_single_parts m c)
+  pub links_back : IsTrue (has_links_back m c)
   pub counts : IsTrue (has_counts m c)
 
 -- what is shaped passes each test
 pub passes_each : (m : Model) (c : List Instance) → IsTrue (is_shaped m c) → PassesEach m c
 unfolding is_shaped
 passes_each m c h =
-    let six = and_parts _ _ h in
+    let seven = and_parts _ _ h in
+    let six = and_parts _ _ seven.0 in
     let five = and_parts _ _ six.0 in
     let four = and_parts _ _ five.0 in
     let three = and_parts _ _ four.0 in
@@ -36,14 +38,15 @@ passes_each m c h =
       values = three.1;
       links = four.1;
       single_parts = five.1;
-      counts = six.1;
+      links_back = six.1;
+      counts = seven.1;
     }
 
 -- what passes each test is shaped
 pub is_shaped_from : (m : Model) (c : List Instance) → PassesEach m c → IsTrue (is_shaped m c)
 unfolding is_shaped
 is_shaped_from m c p =
-    and_from _ _ (and_from _ _ (and_from _ _ (and_from _ _ (and_from _ _ (and_from _ _ p.leaf_types p.root) p.size) p.values) p.links) p.single_parts) p.counts
+    and_from _ _ (and_from _ _ (and_from _ _ (and_from _ _ (and_from _ _ (and_from _ _ (and_from _ _ p.leaf_types p.root) p.size) p.values) p.links) p.single_parts) p.links_back) p.counts
 
 -- the test of one instance in `has_leaf_types`
 abbrev pub is_built : Model → Instance → Bool

@@ -24,6 +24,7 @@ use Rattle.config_value.specs.Links.{LinkPlace, IsPartLink}
 use Rattle.config_value.proofs.PartLinks.{parts_once, once_parts, parts_nowhere, nowhere_parts}
 use Rattle.std.proofs.lemmas.Option.{slice_get_within}
 use Rattle.config_value.proofs.Places
+use Rattle.config_value.proofs.LinksBack.{links_back_at, links_back_from, has_links_back_at, has_links_back_from, each_links_back, links_back_each}
 use Rattle.config_value.proofs.ShapedParts.{PassesEach, passes_each, is_shaped_from, is_built, is_built_at, is_built_from}
 
 -- ---- instances and their types
@@ -146,6 +147,8 @@ has_shape m c p =
       parts = λ j a b first second. once_parts m c j
           (once_counted (λ k. k == j) (part_links m c) (single_at (parts_into m c j) j (single_part_at m c p.single_parts j (there j a first)))) a b first second;
       whole = nowhere_parts m c 0 (nowhere_counted (λ k. k == 0) (part_links m c) (zero_at (parts_into m c 0) (single_part_at m c p.single_parts 0 size.0)));
+      links_back = λ i k h j id x q links e f g inverse leads. links_back_at m c id i j
+          (links_back_each m c i q links (has_links_back_at m c p.links_back i k x q links e f g) id h j inverse leads);
       counts = λ k b e. Places.is_between_at b.low b.high (count_by (under m b.kind) c)
           (list_all_at (λ b. is_between b.low b.high (count_by (under m b.kind) c)) m.bounds p.counts k b e);
     }
@@ -177,6 +180,8 @@ passes_from m c s = record {
   single_parts = single_parts_from m c (λ j within.
       single_from (parts_into m c j) j (counted_once (λ k. k == j) (part_links m c) (parts_once m c j (s.parts j)))
       (λ first. ap (parts_into m c) first ∙ counted_nowhere (λ k. k == 0) (part_links m c) (parts_nowhere m c 0 s.whole)));
+  links_back = has_links_back_from m c s.built (λ i k x p links e f g. each_links_back m c i p links (λ id h j inverse leads.
+      links_back_from m c id i j (s.links_back i k h j id x p links e f g inverse leads)));
   counts = list_all_from (λ b. is_between b.low b.high (count_by (under m b.kind) c)) m.bounds (λ k b e.
       Places.is_between_from b.low b.high (count_by (under m b.kind) c) (s.counts k b e));
 }

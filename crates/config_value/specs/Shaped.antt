@@ -1,7 +1,7 @@
 -- Which lists of instances are shaped as configurations of a model.
 use Rattle.std.specs.Prelude.{ℕ, ℤ, pos, negsuc, int_le, Bool, true, false, ◌&&◌, ◌==◌, nat_lt, nat_le, List, [], ◌∷◌, length, slice_get, if◌then◌else◌}
 use Rattle.std.specs.Option.{option_map_or}
-use Rattle.std.specs.List.{list_any, list_all, flat_map, count_by, range_with_len, zip}
+use Rattle.std.specs.List.{list_any, list_all, flat_map, count_by, enumerate_from, range_with_len, zip}
 use lib.Pointwise.{pointwise}
 use Rattle.prod_model.specs.declared.model.Model.{Model}
 use Rattle.prod_model.specs.declared.model.Domain.{Domain}
@@ -14,7 +14,7 @@ use Rattle.prod_model.specs.Limits.{is_between}
 use Rattle.prod_model.specs.Forest.{is_leaf}
 use Rattle.prod_model.specs.Taxonomy.{first_words, attributes_at, ports_at}
 use Rattle.config_value.specs.declared.configuration.Instance.{Instance}
-use Rattle.config_value.specs.Value.{under, is_under}
+use Rattle.config_value.specs.Value.{under, is_under, links_at_instance}
 
 -- the numbers of the instances, which count from 0
 abbrev pub instance_numbers : List Instance → List ℕ
@@ -84,6 +84,22 @@ has_single_parts m c =
     (λ j. nat_le (count_by (λ k. k == j) (part_links m c)) (if j == 0 then 0 else 1))
     (instance_numbers c)
 
+-- the instance of number j has a port of id q, and links i by it
+abbrev pub links_back : Model → List Instance → ℕ → ℕ → ℕ → Bool
+links_back m c q i j = list_any (λ k. k == i) (links_at_instance m c q j)
+
+-- The links of instance i by a port: where it has an inverse, each linked instance links back by it.
+abbrev pub has_links_back_of : Model → List Instance → ℕ → PortAt → List ℕ → Bool
+has_links_back_of m c i p links =
+    option_map_or (λ q. list_all (links_back m c q i) links) p.inverse true
+
+-- This holds of the links of each port of each instance.
+unfoldable pub has_links_back : Model → List Instance → Bool
+has_links_back m c =
+    list_all
+    (λ e. pointwise (has_links_back_of m c e.0) (ports_at m e.1.kind) e.1.links)
+    (enumerate_from 0 c)
+
 -- For each entry of `bounds`, the number of instances under its type is within its pair.
 unfoldable pub has_counts : Model → List Instance → Bool
 has_counts m c = list_all (λ b. is_between b.low b.high (count_by (under m b.kind) c)) m.bounds
@@ -92,4 +108,5 @@ has_counts m c = list_all (λ b. is_between b.low b.high (count_by (under m b.ki
 unfoldable pub is_shaped : Model → List Instance → Bool
 is_shaped m c =
     has_leaf_types m c && has_root m c
-    && has_size m c && has_values m c && has_links m c && has_single_parts m c && has_counts m c
+    && has_size m c && has_values m c && has_links m c && has_single_parts m c
+    && has_links_back m c && has_counts m c

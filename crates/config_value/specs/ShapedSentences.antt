@@ -52,6 +52,25 @@ pub record AreLinksOf (m : Model) (c : List Instance) (p : PortAt) (links : List
   pub on_target : (k i : ℕ) → IsAt links k i → IsInstanceUnder m c p.target i
   pub number : IsBetween p.low p.high (length links)
 
+-- The port of that id stands at this place of the type. It is the first of the id there, and in a
+-- valid model the only one.
+pub record IsPortOfId (m : Model) (t id place : ℕ) : Type 0 where
+  pub port : PortAt
+  pub stands : IsAt (ports_at m t) place port
+  pub of_id : port.id ≡ id
+  pub none_before : (k : ℕ) (p : PortAt) → k < place → IsAt (ports_at m t) k p → ¬ (p.id ≡ id)
+
+-- there is an instance j, which has a port of that id and links i by it
+pub record IsLinkedBy (m : Model) (c : List Instance) (id i j : ℕ) : Type 0 where
+  pub instance : Instance
+  pub there : IsAt c j instance
+  pub place : ℕ
+  pub port : IsPortOfId m instance.kind id place
+  pub links : List ℕ
+  pub linked : IsAt instance.links place links
+  pub link_place : ℕ
+  pub leads : IsAt links link_place i
+
 -- The shape of a configuration of the model. The line above a field says what it means.
 pub record HasShape (m : Model) (c : List Instance) : Type 0 where
   -- there is an instance, and there are no more than the model allows
@@ -71,6 +90,10 @@ pub record HasShape (m : Model) (c : List Instance) : Type 0 where
   -- no two part links lead to one instance, and none leads to instance 0
   pub parts : (j : ℕ) (a b : LinkPlace) → IsPartLink m c j a → IsPartLink m c j b → a ≡ b
   pub whole : (a : LinkPlace) → ¬ IsPartLink m c 0 a
+  -- where an instance links another by a port with an inverse, the other links it by the inverse
+  pub links_back : (i k h j id : ℕ) (x : Instance) (p : PortAt) (links : List ℕ) → IsAt c i x
+      → IsAt (ports_at m x.kind) k p → IsAt x.links k links → p.inverse ≡ Some id
+      → IsAt links h j → IsLinkedBy m c id i j
   -- for each entry of `bounds`, the number of instances under its type is within its pair
   pub counts : (k : ℕ) (b : CountBound) → IsAt m.bounds k b
       → IsBetween b.low b.high (count_by (under m b.kind) c)

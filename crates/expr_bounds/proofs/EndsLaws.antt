@@ -16,7 +16,7 @@ use Rattle.prod_model.specs.declared.expr.Expr.{Expr}
 use Rattle.prod_model.specs.declared.expr.Expr.TheOpen.{Expr-F, Num, Attr, Count, CountOf, Sum, Total, Number, Add, Sub, Times, Cmp, Is, Kind, And, Or, Not, If, All, Any}
 use Rattle.prod_model.specs.Limits.{is_within, farthest_bound}
 use Rattle.prod_model.specs.Forest.{is_type}
-use Rattle.prod_model.specs.Taxonomy.{attribute_of, port_of, first_words}
+use Rattle.prod_model.specs.Taxonomy.{attribute_of, declared_port_of, first_words}
 use Rattle.prod_model.specs.ExprBounds.{bounds_at, bounded, is_number, low_of, high_of, sum_of, sum_of_some, difference, multiple, comparison, truth_of, of_range, is_word_of, has_arguments}
 use Rattle.prod_model.specs.steps.ExprBounds.{sum_onto}
 use Rattle.prod_model.proofs.ExprBoundsLaws.{sum_of_all_added}
@@ -101,7 +101,7 @@ none_if false o none = refl
 pub wide_unbounded : (m : Model) (f : Expr-F Expr) (t : ℕ) → is_wide m f t ≡ true → form_bounds m f t ≡ None
 wide_unbounded m (Num n) t wide = none_of_wide (Some (n, n)) wide
 wide_unbounded m (Attr a) t wide = range_limited (attribute_of m t a) ∙ none_of_wide (ends_of m (Attr a) t) wide
-wide_unbounded m (Sum p a) t wide = links_limited m a (port_of m t p) ∙ none_of_wide (ends_of m (Sum p a) t) wide
+wide_unbounded m (Sum p a) t wide = links_limited m a (declared_port_of m t p) ∙ none_of_wide (ends_of m (Sum p a) t) wide
 wide_unbounded m (Total u a) t wide = some_limited 0 m.instances (attribute_of m u a) ∙ none_of_wide (ends_of m (Total u a) t) wide
 wide_unbounded m (Add args) t wide =
     none_if (has_arguments args) _ (all_limited (map (λ e. bounds_at m e t) args) ∙ none_of_wide (ends_of m (Add args) t) wide)
@@ -264,12 +264,12 @@ unbounded_wide m (Num n) t names attributes kinds count none = wide_of_none (Som
 unbounded_wide m (Attr a) t names attributes kinds count none =
     wide_of_none (ends_of m (Attr a) t) (range_some (attribute_of m t a) (known _ 1 names) (known _ 1 attributes))
     (sym (range_limited (attribute_of m t a)) ∙ none)
-unbounded_wide m (Count p) t names attributes kinds count none = none_some _ (map_some _ (port_of m t p) (known _ 1 names)) none
+unbounded_wide m (Count p) t names attributes kinds count none = none_some _ (map_some _ (declared_port_of m t p) (known _ 1 names)) none
 unbounded_wide m (CountOf p u) t names attributes kinds count none =
-    let both = known_first (is_some (port_of m t p)) 1 _ names in
-    none_some _ (if_some (is_type m u) _ (known _ 2 both.1) (map_some _ (port_of m t p) both.0)) none
+    let both = known_first (is_some (declared_port_of m t p)) 1 _ names in
+    none_some _ (if_some (is_type m u) _ (known _ 2 both.1) (map_some _ (declared_port_of m t p) both.0)) none
 unbounded_wide m (Sum p a) t names attributes kinds count none =
-    wide_of_none (ends_of m (Sum p a) t) (links_some m a (port_of m t p) names attributes) (sym (links_limited m a (port_of m t p)) ∙ none)
+    wide_of_none (ends_of m (Sum p a) t) (links_some m a (declared_port_of m t p) names attributes) (sym (links_limited m a (declared_port_of m t p)) ∙ none)
 unbounded_wide m (Total u a) t names attributes kinds count none =
     wide_of_none (ends_of m (Total u a) t)
     (map_some (ends_of_some 0 m.instances) (option_and_then ends_of_range (attribute_of m u a))
@@ -302,5 +302,5 @@ unbounded_wide m (Not e) t names attributes kinds count none =
     none_some _ (truths_some (bounds_at m e t ∷ []) (listed_kinds m t true (e ∷ []) kinds)) none
 unbounded_wide m (If e f) t names attributes kinds count none =
     none_some _ (truths_some (bounds_at m e t ∷ bounds_at m f t ∷ []) (listed_kinds m t true (e ∷ f ∷ []) kinds)) none
-unbounded_wide m (All p e) t names attributes kinds count none = none_some _ (linked_some m e (port_of m t p) (known _ 1 names) (kinds 0 e refl)) none
-unbounded_wide m (Any p e) t names attributes kinds count none = none_some _ (linked_some m e (port_of m t p) (known _ 1 names) (kinds 0 e refl)) none
+unbounded_wide m (All p e) t names attributes kinds count none = none_some _ (linked_some m e (declared_port_of m t p) (known _ 1 names) (kinds 0 e refl)) none
+unbounded_wide m (Any p e) t names attributes kinds count none = none_some _ (linked_some m e (declared_port_of m t p) (known _ 1 names) (kinds 0 e refl)) none

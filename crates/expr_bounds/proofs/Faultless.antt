@@ -9,7 +9,7 @@ use Rattle.prod_model.specs.declared.expr.Expr.TheOpen.{Expr-F, All, Any}
 use Rattle.prod_model.specs.declared.expr.Expr.TheViews.{out-Expr}
 use Rattle.prod_model.specs.Limits.{most_nesting}
 use Rattle.prod_model.specs.Nesting.{nesting}
-use Rattle.prod_model.specs.Taxonomy.{port_of}
+use Rattle.prod_model.specs.Taxonomy.{declared_port_of}
 use Rattle.prod_model.specs.ExprBounds.{bounds_at}
 use Rattle.expr_bounds.specs.steps.Arguments.{argument_list}
 use Rattle.expr_bounds.specs.Parts.{type_of_arguments}
@@ -40,8 +40,8 @@ port_known None none = absurd (none 1 (contains_unless false 1 refl))
 port_known (Some q) none = (q.target, refl)
 
 type_known : (m : Model) (f : Expr-F Expr) (t : ℕ) → ((k : ℕ) → ¬ Contains (unknown_names m f t) k) → (u : ℕ) × (type_of_arguments m f (Some t) ≡ Some u)
-type_known m (All p e) t none = port_known (port_of m t p) none
-type_known m (Any p e) t none = port_known (port_of m t p) none
+type_known m (All p e) t none = port_known (declared_port_of m t p) none
+type_known m (Any p e) t none = port_known (declared_port_of m t p) none
 type_known m form t none = (t, refl)
 
 some_unless_none : {X : Type 0} (o : Option X) → ¬ (is_none o ≡ true) → is_some o ≡ true

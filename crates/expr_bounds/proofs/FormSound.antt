@@ -18,7 +18,7 @@ use Rattle.prod_model.specs.declared.expr.Expr.{Expr}
 use Rattle.prod_model.specs.declared.expr.Expr.TheOpen.{Expr-F, Num, Attr, Count, CountOf, Sum, Total, Number, Add, Sub, Times, Cmp, Is, Kind, And, Or, Not, If, All, Any}
 use Rattle.prod_model.specs.declared.expr.Expr.TheViews.{out-Expr}
 use Rattle.prod_model.specs.Forest.{is_type}
-use Rattle.prod_model.specs.Taxonomy.{attribute_of, port_of, first_words}
+use Rattle.prod_model.specs.Taxonomy.{attribute_of, declared_port_of, first_words}
 use Rattle.prod_model.specs.ExprBounds.{bounds_at, bounded, sum_of_some, difference, multiple, comparison, truth_of, of_range, is_word_of, has_arguments}
 use Rattle.prod_model.specs.steps.ExprBounds.{sum_onto}
 use Rattle.expr_bounds.specs.steps.Arguments.{argument_list}
@@ -182,21 +182,21 @@ sound m (Attr a) t is =
     let found = number_of_range (attribute_of m t a) bounded number_kind is in
     record { names = no_place _ 1 found.0; attributes = no_place _ 1 found.1; arguments = no_arguments m (Some t) false; kind = found.2 }
 sound m (Count p) t is = record {
-  names = no_place _ 1 (some_mapped _ (port_of m t p) is);
+  names = no_place _ 1 (some_mapped _ (declared_port_of m t p) is);
   attributes = refl;
   arguments = no_arguments m (Some t) false;
-  kind = count_kind (port_of m t p) _ (λ q. refl) is;
+  kind = count_kind (declared_port_of m t p) _ (λ q. refl) is;
 }
 sound m (CountOf p u) t is =
     let holds = if_holds (is_type m u) _ is in
     record {
-      names = both_known (is_some (port_of m t p)) (is_type m u) (some_mapped _ (port_of m t p) holds.1) holds.0;
+      names = both_known (is_some (declared_port_of m t p)) (is_type m u) (some_mapped _ (declared_port_of m t p) holds.1) holds.0;
       attributes = refl;
       arguments = no_arguments m (Some t) false;
-      kind = rw holds.0 (count_kind (port_of m t p) (λ q. number (pos 0) (pos q.high)) (λ q. refl) holds.1);
+      kind = rw holds.0 (count_kind (declared_port_of m t p) (λ q. number (pos 0) (pos q.high)) (λ q. refl) holds.1);
     }
 sound m (Sum p a) t is =
-    let found = sum_sound m t p a (port_of m t p) is in
+    let found = sum_sound m t p a (declared_port_of m t p) is in
     record { names = found.0; attributes = found.1; arguments = no_arguments m (Some t) false; kind = found.2 }
 sound m (Total u a) t is =
     let found = number_of_range (attribute_of m u a) (sum_of_some 0 m.instances) (sum_kind 0 m.instances) is in
@@ -238,10 +238,10 @@ sound m (If e f) t is =
     let kinds = truths_kinds (bounds_at m e t ∷ bounds_at m f t ∷ []) is in
     record { names = refl; attributes = refl; arguments = two_arguments m e f (Some t) true (t, refl, kinds.1 0 _ refl) (t, refl, kinds.1 1 _ refl); kind = kinds.0 }
 sound m (All p e) t is =
-    let kinds = linked_kinds m e (port_of m t p) is in
+    let kinds = linked_kinds m e (declared_port_of m t p) is in
     record { names = no_place _ 1 kinds.0; attributes = refl; arguments = one_argument m e _ true kinds.1; kind = kinds.2 }
 sound m (Any p e) t is =
-    let kinds = linked_kinds m e (port_of m t p) is in
+    let kinds = linked_kinds m e (declared_port_of m t p) is in
     record { names = no_place _ 1 kinds.0; attributes = refl; arguments = one_argument m e _ true kinds.1; kind = kinds.2 }
 
 -- the same of an expression

@@ -13,7 +13,7 @@ use Rattle.prod_model.specs.declared.expr.Expr.{Expr}
 use Rattle.prod_model.specs.declared.expr.Expr.TheOpen.{Expr-F, Num, Attr, Count, CountOf, Sum, Total, Number, Add, Sub, Times, Cmp, Is, Kind, And, Or, Not, If, All, Any}
 use Rattle.prod_model.specs.declared.expr.Expr.TheViews.{out-Expr}
 use Rattle.prod_model.specs.Forest.{is_type}
-use Rattle.prod_model.specs.Taxonomy.{attribute_of, port_of}
+use Rattle.prod_model.specs.Taxonomy.{attribute_of, declared_port_of}
 use Rattle.expr_bounds.specs.steps.Arguments.{argument_list, first_place}
 use Rattle.expr_bounds.specs.Faults.{place_unless, has_range, has_words, attribute_of_target, is_known_word, unknown_names, wrong_attributes}
 use Rattle.expr_bounds.specs.steps.Search.{own_faults, whole_if, places, is_too_deep, is_wrong_kind, is_innermost_unbounded, IsPathBefore}
@@ -78,9 +78,9 @@ least_type false c = refl
 least_names : (m : Model) (f : Expr-F Expr) (t : ℕ) → first_is_least (places (unknown_names m f t)) ≡ true
 least_names m (Num n) t = refl
 least_names m (Attr a) t = least_one (is_some (attribute_of m t a))
-least_names m (Count p) t = least_one (is_some (port_of m t p))
-least_names m (CountOf p u) t = least_both (is_some (port_of m t p)) (is_type m u)
-least_names m (Sum p a) t = least_found (port_of m t p) (λ q. is_some (attribute_of m q.target a))
+least_names m (Count p) t = least_one (is_some (declared_port_of m t p))
+least_names m (CountOf p u) t = least_both (is_some (declared_port_of m t p)) (is_type m u)
+least_names m (Sum p a) t = least_found (declared_port_of m t p) (λ q. is_some (attribute_of m q.target a))
 least_names m (Total u a) t = least_type (is_type m u) (is_some (attribute_of m u a))
 least_names m (Number u) t = least_one (is_type m u)
 least_names m (Add args) t = refl
@@ -93,8 +93,8 @@ least_names m (And args) t = refl
 least_names m (Or args) t = refl
 least_names m (Not e) t = refl
 least_names m (If e f) t = refl
-least_names m (All p e) t = least_one (is_some (port_of m t p))
-least_names m (Any p e) t = least_one (is_some (port_of m t p))
+least_names m (All p e) t = least_one (is_some (declared_port_of m t p))
+least_names m (Any p e) t = least_one (is_some (declared_port_of m t p))
 
 least_wrong_one : (w b : Bool) → first_is_least (whole_if w ++ places (place_unless b 1)) ≡ true
 least_wrong_one true true = refl
@@ -155,8 +155,8 @@ early_names m (Total u a) t i arg found = cc
 early_names m (Number u) t i arg found = cc
 early_names m (Is a w) t i arg found = cc
 early_names m (Kind u) t i arg found = cc
-early_names m (All p e) t i arg found = early_one (is_some (port_of m t p))
-early_names m (Any p e) t i arg found = early_one (is_some (port_of m t p))
+early_names m (All p e) t i arg found = early_one (is_some (declared_port_of m t p))
+early_names m (Any p e) t i arg found = early_one (is_some (declared_port_of m t p))
 early_names m form t i arg found = refl
 
 early_wrong_none : (place : ℕ) (w : Bool) → list_all (is_early place) (whole_if w ++ []) ≡ true

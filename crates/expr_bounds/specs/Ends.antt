@@ -12,7 +12,7 @@ use Rattle.prod_model.specs.declared.expr_bounds.Bounds.TheVariants.{Number as n
 use Rattle.prod_model.specs.declared.expr.Expr.{Expr}
 use Rattle.prod_model.specs.declared.expr.Expr.TheOpen.{Expr-F, Num, Attr, Sum, Total, Add, Sub, Times}
 use Rattle.prod_model.specs.Limits.{is_within, farthest_bound}
-use Rattle.prod_model.specs.Taxonomy.{attribute_of, port_of}
+use Rattle.prod_model.specs.Taxonomy.{attribute_of, declared_port_of}
 use Rattle.prod_model.specs.ExprBounds.{bounds_at, is_number, low_of, high_of, sum_of}
 
 -- the low and the high of a number, and nothing where it is a truth or has no bounds
@@ -55,7 +55,7 @@ ends_of m (Num n) t = Some (n, n)
 ends_of m (Attr a) t = ends_of_attribute m t a
 ends_of m (Sum p a) t =
     option_and_then (λ q. option_map (ends_of_some q.low q.high) (ends_of_attribute m q.target a))
-    (port_of m t p)
+    (declared_port_of m t p)
 ends_of m (Total u a) t = option_map (ends_of_some 0 m.instances) (ends_of_attribute m u a)
 ends_of m (Add args) t = ends_of_all (map (λ e. bounds_at m e t) args)
 ends_of m (Sub e f) t =

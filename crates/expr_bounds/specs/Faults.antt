@@ -13,7 +13,7 @@ use Rattle.prod_model.specs.declared.expr.Expr.TheViews.{out-Expr}
 use Rattle.prod_model.specs.First.{IsFirst}
 use Rattle.prod_model.specs.Limits.{most_nesting}
 use Rattle.prod_model.specs.Forest.{is_type}
-use Rattle.prod_model.specs.Taxonomy.{attribute_of, port_of, first_words}
+use Rattle.prod_model.specs.Taxonomy.{attribute_of, declared_port_of, first_words}
 use Rattle.expr_bounds.specs.Parts.{IsPart, arguments}
 use Rattle.expr_bounds.specs.Ends.{is_wide}
 use Rattle.expr_bounds.specs.declared.fault.ExprFault.{ExprFault}
@@ -33,7 +33,7 @@ has_words a = not (has_range a)
 
 -- the attribute of a type of the target of a port, if there is such a port
 abbrev pub attribute_of_target : Model → ℕ → ℕ → ℕ → Option AttrAt
-attribute_of_target m t p a = option_and_then (λ q. attribute_of m q.target a) (port_of m t p)
+attribute_of_target m t p a = option_and_then (λ q. attribute_of m q.target a) (declared_port_of m t p)
 
 -- a word of the attribute's first declaration; it isn't tested where the attribute has a range
 abbrev pub is_known_word : Model → ℕ → AttrAt → Bool
@@ -44,12 +44,12 @@ is_known_word m w a = has_range a || nat_lt w (length (first_words m a.id))
 -- tested.
 abbrev pub unknown_names : Model → Expr-F Expr → ℕ → List ℕ
 unknown_names m (Attr a) t = place_unless (is_some (attribute_of m t a)) 1
-unknown_names m (Count p) t = place_unless (is_some (port_of m t p)) 1
+unknown_names m (Count p) t = place_unless (is_some (declared_port_of m t p)) 1
 unknown_names m (CountOf p u) t =
-    place_unless (is_some (port_of m t p)) 1 ++ place_unless (is_type m u) 2
+    place_unless (is_some (declared_port_of m t p)) 1 ++ place_unless (is_type m u) 2
 unknown_names m (Sum p a) t =
-    place_unless (is_some (port_of m t p)) 1
-    ++ option_map_or (λ q. place_unless (is_some (attribute_of m q.target a)) 2) (port_of m t p) []
+    place_unless (is_some (declared_port_of m t p)) 1
+    ++ option_map_or (λ q. place_unless (is_some (attribute_of m q.target a)) 2) (declared_port_of m t p) []
 unknown_names m (Total u a) t =
     place_unless (is_type m u) 1
     ++ (if is_type m u then place_unless (is_some (attribute_of m u a)) 2 else [])
@@ -58,8 +58,8 @@ unknown_names m (Is a w) t =
     place_unless (is_some (attribute_of m t a)) 1
     ++ option_map_or (λ b. place_unless (is_known_word m w b) 2) (attribute_of m t a) []
 unknown_names m (Kind u) t = place_unless (is_type m u) 1
-unknown_names m (All p e) t = place_unless (is_some (port_of m t p)) 1
-unknown_names m (Any p e) t = place_unless (is_some (port_of m t p)) 1
+unknown_names m (All p e) t = place_unless (is_some (declared_port_of m t p)) 1
+unknown_names m (Any p e) t = place_unless (is_some (declared_port_of m t p)) 1
 unknown_names m form t = []
 
 -- a truth, by its form; the others are numbers

@@ -8,7 +8,7 @@ use Rattle.prod_model.specs.declared.model.Model.{Model}
 use Rattle.prod_model.specs.declared.expr.Expr.{Expr}
 use Rattle.prod_model.specs.declared.expr.Expr.TheOpen.{Expr-F, Num, Attr, Count, CountOf, Sum, Total, Number, Add, Sub, Times, Cmp, Is, Kind, And, Or, Not, If, All, Any}
 use Rattle.prod_model.specs.declared.expr.Expr.TheViews.{out-Expr}
-use Rattle.prod_model.specs.Taxonomy.{port_of}
+use Rattle.prod_model.specs.Taxonomy.{declared_port_of}
 
 -- The argument expressions of a form, each with its place in the array form. The operator stands
 -- at 0.
@@ -37,9 +37,9 @@ arguments (Any p e) = (2, e) ∷ []
 -- else the same. None where the form's own type isn't known, or it has no such port.
 abbrev pub type_of_arguments : Model → Expr-F Expr → Option ℕ → Option ℕ
 type_of_arguments m (All p e) t =
-    option_map (λ q. q.target) (option_and_then (λ u. port_of m u p) t)
+    option_map (λ q. q.target) (option_and_then (λ u. declared_port_of m u p) t)
 type_of_arguments m (Any p e) t =
-    option_map (λ q. q.target) (option_and_then (λ u. port_of m u p) t)
+    option_map (λ q. q.target) (option_and_then (λ u. declared_port_of m u p) t)
 type_of_arguments m form t = t
 
 -- The expression that stands at type t has a part at a path, which stands at a type: itself, or an

@@ -4,7 +4,7 @@ ghost use Rattle.std.specs.Option.{option_copied, option_map, option_and_then};
 ghost use Rattle.prod_model.specs.Forest.{is_type as is_type_of};
 ghost use Rattle.prod_model.specs.declared.expr.Expr.TheViews.{out-Expr};
 ghost use Rattle.prod_model.specs.Limits.{most_arguments};
-ghost use Rattle.prod_model.specs.Taxonomy.{tables_of, attribute_of as attribute_at, port_of as port_at};
+ghost use Rattle.prod_model.specs.Taxonomy.{AreTablesOf, attribute_of as attribute_at, declared_port_of as port_at};
 ghost use Rattle.prod_model.specs.ExprBounds.{bounds_at, sum_of_some as sum_between, of_range, truth_of, has_arguments};
 ghost use Rattle.prod_model.specs.Valid.{IsDeclared};
 ghost use Rattle.prod_model.specs.steps.ExprBounds.{sum_onto};
@@ -23,7 +23,7 @@ use prod_model::{Bounds, Boxed, Expr, Items, Model, Tables};
 #[tactic(auto, using(crate::proofs::BoundsLaws::form_laws))]
 pub(crate) fn bounds(model: &Model, tables: &Tables, expr: &Expr, at: u32) -> Option<Bounds>
     requires declared { IsDeclared model.now }
-    requires tables { tables.now ≡ tables_of model.now }
+    requires tables { AreTablesOf model.now tables.now }
     ensures { result ≡ bounds_at model.now expr.now at }
 {
     form_bounds(model, tables, expr, at)
@@ -34,7 +34,7 @@ pub(crate) fn bounds(model: &Model, tables: &Tables, expr: &Expr, at: u32) -> Op
 #[tactic(auto, using(crate::proofs::BoundsLaws::form_laws))]
 fn form_bounds(model: &Model, tables: &Tables, form: &Expr, at: u32) -> Option<Bounds>
     requires declared { IsDeclared model.now }
-    requires tables { tables.now ≡ tables_of model.now }
+    requires tables { AreTablesOf model.now tables.now }
     ensures { result ≡ bounds_of_form model.now (out-Expr form.now) at }
 {
     match form {
@@ -77,7 +77,7 @@ fn form_bounds(model: &Model, tables: &Tables, form: &Expr, at: u32) -> Option<B
 
 /// How many links a port of a type has.
 fn links(model: &Model, tables: &Tables, at: u32, p: u32) -> Option<Bounds>
-    requires { tables.now ≡ tables_of model.now }
+    requires { AreTablesOf model.now tables.now }
     ensures { result ≡ option_map (λ q. Bounds.Number (pos q.low) (pos q.high))
         (port_at model.now at p) }
 {
@@ -87,7 +87,7 @@ fn links(model: &Model, tables: &Tables, at: u32, p: u32) -> Option<Bounds>
 
 /// How many of them are to instances under a type.
 fn links_under(model: &Model, tables: &Tables, at: u32, p: u32, kind: u32) -> Option<Bounds>
-    requires { tables.now ≡ tables_of model.now }
+    requires { AreTablesOf model.now tables.now }
     ensures { result ≡ (if is_type_of model.now kind
         then option_map (λ q. Bounds.Number (pos 0) (pos q.high)) (port_at model.now at p)
         else None) }
@@ -98,7 +98,7 @@ fn links_under(model: &Model, tables: &Tables, at: u32, p: u32, kind: u32) -> Op
 
 /// The sum of an attribute over the links of a port.
 fn sum_of_links(model: &Model, tables: &Tables, at: u32, p: u32, a: u32) -> Option<Bounds>
-    requires { tables.now ≡ tables_of model.now }
+    requires { AreTablesOf model.now tables.now }
     ensures { result ≡ option_and_then (λ q. option_and_then (of_range (sum_between q.low q.high))
         (attribute_at model.now q.target a)) (port_at model.now at p) }
 {
@@ -111,7 +111,7 @@ fn sum_of_links(model: &Model, tables: &Tables, at: u32, p: u32, a: u32) -> Opti
 #[tactic(auto, using(crate::proofs::BoundsLaws::form_laws))]
 fn inner_bounds(model: &Model, tables: &Tables, arg: &Boxed<Expr>, at: u32) -> Option<Bounds>
     requires declared { IsDeclared model.now }
-    requires tables { tables.now ≡ tables_of model.now }
+    requires tables { AreTablesOf model.now tables.now }
     ensures { result ≡ bounds_at model.now arg.now at }
 {
     form_bounds(model, tables, arg.get(), at)
@@ -121,7 +121,7 @@ fn inner_bounds(model: &Model, tables: &Tables, arg: &Boxed<Expr>, at: u32) -> O
 #[cycle(forms)]
 fn sum_of_all(model: &Model, tables: &Tables, args: &[Expr], at: u32) -> Option<Bounds>
     requires declared { IsDeclared model.now }
-    requires tables { tables.now ≡ tables_of model.now }
+    requires tables { AreTablesOf model.now tables.now }
     requires few { length args.now ≤ most_arguments }
     ensures { result ≡ sum_onto (pos 0) (pos 0) (map (λ e. bounds_at model.now e at) args.now) }
 {
@@ -136,7 +136,7 @@ fn sum_of_all(model: &Model, tables: &Tables, args: &[Expr], at: u32) -> Option<
 #[cycle(forms)]
 fn all_truths(model: &Model, tables: &Tables, args: &[Expr], at: u32) -> Option<Bounds>
     requires declared { IsDeclared model.now }
-    requires tables { tables.now ≡ tables_of model.now }
+    requires tables { AreTablesOf model.now tables.now }
     ensures { result ≡ truth_of (map (λ e. bounds_at model.now e at) args.now) }
 {
     for arg in args {

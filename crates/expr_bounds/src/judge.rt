@@ -2,7 +2,7 @@
 ghost use Rattle.std.specs.Prelude.{◌≡◌, ◌<◌, ◌≤◌, length, Some, IsTrue, IfOk, IfErr, IfSome, IfNone};
 ghost use Rattle.prod_model.specs.Limits.{most_nesting};
 ghost use Rattle.prod_model.specs.Nesting.{nesting};
-ghost use Rattle.prod_model.specs.Taxonomy.{tables_of};
+ghost use Rattle.prod_model.specs.Taxonomy.{AreTablesOf};
 ghost use Rattle.prod_model.specs.ExprBounds.{bounds_at};
 ghost use Rattle.prod_model.specs.Valid.{IsDeclared};
 ghost use Rattle.expr_bounds.specs.Forms.{is_form};
@@ -37,7 +37,7 @@ pub fn bounds_of(
     at: u32,
 ) -> Result<Bounds, ExprFault>
     requires declared { IsDeclared model.now }
-    requires tables { tables.now ≡ tables_of model.now }
+    requires tables { AreTablesOf model.now tables.now }
     requires at { at < length model.now.types }
     requires form { IsTrue (is_form expr.now) }
     ensures bounds { IfOk result (λ b. bounds_at model.now expr.now at ≡ Some b) }
@@ -72,7 +72,7 @@ fn first_of(
     at: u32,
 ) -> Option<ExprFault>
     requires declared { IsDeclared model.now }
-    requires tables { tables.now ≡ tables_of model.now }
+    requires tables { AreTablesOf model.now tables.now }
     requires form { IsTrue (is_form expr.now) }
     ensures none { IfNone result (HasNone model.now fault_kind expr.now at) }
     ensures first { IfSome result (λ f. IsFirstOfKind model.now fault_kind expr.now at f) }

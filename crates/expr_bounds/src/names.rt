@@ -1,7 +1,7 @@
 //! The names and words of a form that are not known.
 ghost use Rattle.std.specs.Prelude.{◌≡◌, slice_get, length, IsSome};
 ghost use Rattle.prod_model.specs.declared.expr.Expr.TheViews.{out-Expr};
-ghost use Rattle.prod_model.specs.Taxonomy.{tables_of, attribute_of as attribute_at};
+ghost use Rattle.prod_model.specs.Taxonomy.{AreTablesOf, attribute_of as attribute_at};
 ghost use Rattle.prod_model.specs.Valid.{IsDeclared};
 ghost use Rattle.prod_model.specs.ExprBounds.{is_word_of};
 ghost use Rattle.expr_bounds.specs.Faults.{place_unless, unknown_names, is_known_word, has_range as has_range_in};
@@ -11,7 +11,7 @@ use prod_model::{AttrAt, Domain, Expr, Model, Tables};
 /// The place of the first name or word of a form that is not allowed there.
 pub(crate) fn unknown_name(model: &Model, tables: &Tables, form: &Expr, at: u32) -> Option<u32>
     requires declared { IsDeclared model.now }
-    requires tables { tables.now ≡ tables_of model.now }
+    requires tables { AreTablesOf model.now tables.now }
     ensures { result ≡ slice_get (unknown_names model.now (out-Expr form.now) at) 0 }
 {
     match form {
@@ -55,7 +55,7 @@ fn unless(known: bool, place: u32) -> Option<u32>
 /// tested of a range.
 fn is_known(model: &Model, tables: &Tables, at: u32, attribute: &AttrAt, word: u32) -> bool
     requires declared { IsDeclared model.now }
-    requires tables { tables.now ≡ tables_of model.now }
+    requires tables { AreTablesOf model.now tables.now }
     requires has { attribute_at model.now at attribute.now.id ≡ Some attribute.now }
     ensures { result ≡ is_known_word model.now word attribute.now }
 {
@@ -72,7 +72,7 @@ pub(crate) fn has_word(
     word: u32,
 ) -> bool
     requires declared { IsDeclared model.now }
-    requires tables { tables.now ≡ tables_of model.now }
+    requires tables { AreTablesOf model.now tables.now }
     requires has { attribute_at model.now at attribute.now.id ≡ Some attribute.now }
     ensures { result ≡ is_word_of model.now word attribute.now }
 {

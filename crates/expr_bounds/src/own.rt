@@ -3,7 +3,7 @@ ghost use Rattle.std.specs.Prelude.{◌≡◌, ◌≤◌, ◌+◌, ◌∷◌, []
 ghost use Rattle.prod_model.specs.ExprBounds.{bounds_at};
 ghost use Rattle.std.specs.Option.{option_map, option_map_or};
 ghost use Rattle.prod_model.specs.declared.expr.Expr.TheViews.{out-Expr};
-ghost use Rattle.prod_model.specs.Taxonomy.{tables_of};
+ghost use Rattle.prod_model.specs.Taxonomy.{AreTablesOf};
 ghost use Rattle.prod_model.specs.Valid.{IsDeclared};
 ghost use Rattle.expr_bounds.specs.steps.Search.{own_faults, whole_if, places, is_too_deep, is_wrong_kind as is_wrong_kind_of, is_innermost_unbounded, has_bounded_arguments as has_bounded};
 ghost use Rattle.expr_bounds.specs.Faults.{unknown_names, wrong_attributes};
@@ -27,7 +27,7 @@ pub(crate) fn own_fault(
     standing: Standing,
 ) -> Result<Option<Items<u32>>, AllocError>
     requires declared { IsDeclared model.now }
-    requires tables { tables.now ≡ tables_of model.now }
+    requires tables { AreTablesOf model.now tables.now }
     ensures { IfOk result (λ own. own ≡ slice_get
         (own_faults model.now fault_kind part.now standing) 0) }
 {
@@ -72,7 +72,7 @@ fn is_deep(levels: Option<u32>) -> bool
 
 fn unknown(model: &Model, tables: &Tables, part: &Expr, at: Option<u32>) -> Option<u32>
     requires declared { IsDeclared model.now }
-    requires tables { tables.now ≡ tables_of model.now }
+    requires tables { AreTablesOf model.now tables.now }
     ensures { result ≡ slice_get
         (option_map_or (unknown_names model.now (out-Expr part.now)) at []) 0 }
 {
@@ -80,7 +80,7 @@ fn unknown(model: &Model, tables: &Tables, part: &Expr, at: Option<u32>) -> Opti
 }
 
 fn wrong(model: &Model, tables: &Tables, part: &Expr, at: Option<u32>) -> Option<u32>
-    requires { tables.now ≡ tables_of model.now }
+    requires { AreTablesOf model.now tables.now }
     ensures { result ≡ slice_get
         (option_map_or (wrong_attributes model.now (out-Expr part.now)) at []) 0 }
 {
@@ -100,7 +100,7 @@ fn is_wrong_kind(part: &Expr, needs_truth: Option<bool>) -> bool
 /// and no kind is wrong.
 fn is_wide(model: &Model, tables: &Tables, part: &Expr, at: Option<u32>) -> bool
     requires declared { IsDeclared model.now }
-    requires tables { tables.now ≡ tables_of model.now }
+    requires tables { AreTablesOf model.now tables.now }
     ensures { result ≡ option_map_or (is_innermost_unbounded model.now part.now) at false }
 {
     let Some(at) = at else {
@@ -111,7 +111,7 @@ fn is_wide(model: &Model, tables: &Tables, part: &Expr, at: Option<u32>) -> bool
 
 fn has_bounded_arguments(model: &Model, tables: &Tables, part: &Expr, at: u32) -> bool
     requires declared { IsDeclared model.now }
-    requires tables { tables.now ≡ tables_of model.now }
+    requires tables { AreTablesOf model.now tables.now }
     ensures { result ≡ has_bounded model.now part.now at }
 {
     let below = type_of_arguments(model, tables, part, Some(at));
@@ -125,7 +125,7 @@ fn has_bounded_arguments(model: &Model, tables: &Tables, part: &Expr, at: u32) -
 
 fn is_bounded(model: &Model, tables: &Tables, arg: &Expr, at: Option<u32>) -> bool
     requires declared { IsDeclared model.now }
-    requires tables { tables.now ≡ tables_of model.now }
+    requires tables { AreTablesOf model.now tables.now }
     ensures { result ≡ option_map_or (λ u. is_some (bounds_at model.now arg.now u)) at false }
 {
     match at {

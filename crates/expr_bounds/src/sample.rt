@@ -105,6 +105,7 @@ fn of_slot(low: u32, high: u32) -> PortAt
         target: 1,
         low,
         high,
+        inverse: None,
     }
 }
 

@@ -1,6 +1,6 @@
 //! The search for the first fault of a kind.
 ghost use Rattle.std.specs.Prelude.{◌≡◌, ◌∷◌, IfOk, IsTrue};
-ghost use Rattle.prod_model.specs.Taxonomy.{tables_of};
+ghost use Rattle.prod_model.specs.Taxonomy.{AreTablesOf};
 ghost use Rattle.prod_model.specs.Valid.{IsDeclared};
 ghost use Rattle.expr_bounds.specs.Forms.{is_form};
 ghost use Rattle.expr_bounds.specs.steps.Search.{HasFaultAt, Finds};
@@ -25,7 +25,7 @@ pub(crate) fn find(
     standing: Standing,
 ) -> Result<Option<Items<u32>>, AllocError>
     requires declared { IsDeclared model.now }
-    requires tables { tables.now ≡ tables_of model.now }
+    requires tables { AreTablesOf model.now tables.now }
     requires form { IsTrue (is_form part.now) }
     ensures { IfOk result (Finds (HasFaultAt model.now fault_kind part.now standing)) }
 {

@@ -2,7 +2,7 @@
 ghost use Rattle.std.specs.Prelude.{◌≡◌};
 ghost use Rattle.std.specs.Option.{option_and_then};
 ghost use Rattle.prod_model.specs.declared.expr.Expr.TheViews.{out-Expr};
-ghost use Rattle.prod_model.specs.Taxonomy.{tables_of};
+ghost use Rattle.prod_model.specs.Taxonomy.{AreTablesOf};
 ghost use Rattle.expr_bounds.specs.Parts.{type_of_arguments as type_below};
 ghost use Rattle.expr_bounds.specs.steps.Search.{levels_below, whole_at, standing_below};
 
@@ -36,7 +36,7 @@ impl Standing {
 
     /// Where the arguments of a part stand.
     pub(crate) fn below(self, model: &Model, tables: &Tables, part: &Expr) -> Standing
-        requires { tables.now ≡ tables_of model.now }
+        requires { AreTablesOf model.now tables.now }
         ensures { result ≡ standing_below model.now part.now self }
     {
         Standing {
@@ -62,7 +62,7 @@ pub(crate) fn type_of_arguments(
     form: &Expr,
     at: Option<u32>,
 ) -> Option<u32>
-    requires { tables.now ≡ tables_of model.now }
+    requires { AreTablesOf model.now tables.now }
     ensures { result ≡ type_below model.now (out-Expr form.now) at }
 {
     match form {

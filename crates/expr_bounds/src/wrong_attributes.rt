@@ -2,7 +2,7 @@
 ghost use Rattle.std.specs.Prelude.{◌≡◌, true, slice_get};
 ghost use Rattle.std.specs.Option.{option_copied, option_map_or};
 ghost use Rattle.prod_model.specs.declared.expr.Expr.TheViews.{out-Expr};
-ghost use Rattle.prod_model.specs.Taxonomy.{tables_of};
+ghost use Rattle.prod_model.specs.Taxonomy.{AreTablesOf};
 ghost use Rattle.expr_bounds.specs.Faults.{place_unless, has_range as has_range_in, has_words as has_words_in, wrong_attributes};
 
 use crate::names::has_range;
@@ -10,7 +10,7 @@ use prod_model::{AttrAt, Expr, Model, Tables};
 
 /// The place of a form's attribute that has words where a range is needed, or the reverse.
 pub(crate) fn wrong_attribute(model: &Model, tables: &Tables, form: &Expr, at: u32) -> Option<u32>
-    requires { tables.now ≡ tables_of model.now }
+    requires { AreTablesOf model.now tables.now }
     ensures { result ≡ slice_get (wrong_attributes model.now (out-Expr form.now) at) 0 }
 {
     match form {

@@ -1,5 +1,6 @@
 -- What literals declare.
 use Rattle.std.specs.Prelude.{ℕ, ◌&&◌, nat_le, List, map, length, if◌then◌else◌, codes}
+use Rattle.std.specs.Option.{option_map}
 use Rattle.prod_model.specs.declared.model.AttrDecl.{AttrDecl}
 use Rattle.prod_model.specs.declared.model.PortDecl.{PortDecl}
 use Rattle.prod_model.specs.declared.model.TypeDecl.{TypeDecl}
@@ -32,6 +33,7 @@ port_of p = record {
   target = p.target;
   low = p.low;
   high = p.high;
+  inverse = option_map (λ text. name_of text.now) p.inverse;
 }
 
 -- the type of that name and parent, with its attributes and ports in order

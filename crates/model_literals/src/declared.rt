@@ -1,5 +1,6 @@
 //! The declarations that literals stand for.
 ghost use Rattle.std.specs.Prelude.{◌≡◌, [], map, IfOk};
+ghost use Rattle.std.specs.Option.{option_map};
 ghost use Rattle.model_literals.specs.Literals.{name_of, domain_of, attribute_of, port_of, type_of};
 
 use crate::literal::{AttributeLiteral, PortLiteral, TypeLiteral, Values};
@@ -62,6 +63,15 @@ fn attributes_of(
     Ok(attributes)
 }
 
+fn inverse_of(alloc: Global, inverse: Option<&[u8]>) -> Result<Option<Name>, AllocError>
+    ensures { IfOk result (λ name. name ≡ option_map (λ text. name_of text.now) inverse.entry) }
+{
+    match inverse {
+        Some(text) => Ok(Some(name_of(alloc, text)?)),
+        None => Ok(None),
+    }
+}
+
 /// The declaration of a port.
 pub fn port_of(alloc: Global, literal: &PortLiteral) -> Result<PortDecl, AllocError>
     ensures { IfOk result (λ port. port ≡ port_of literal.now) }
@@ -72,6 +82,7 @@ pub fn port_of(alloc: Global, literal: &PortLiteral) -> Result<PortDecl, AllocEr
         target: literal.target,
         low: literal.low,
         high: literal.high,
+        inverse: inverse_of(alloc, literal.inverse)?,
     })
 }
 

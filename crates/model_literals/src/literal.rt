@@ -1,5 +1,5 @@
 //! Types, attributes and ports, written short.
-ghost use Rattle.std.specs.Prelude.{◌≡◌, map};
+ghost use Rattle.std.specs.Prelude.{◌≡◌, map, Some, None};
 ghost use Rattle.prod_model.specs.declared.model.Domain.TheVariants.{Range, Words};
 ghost use Rattle.model_literals.specs.Literals.{name_of, attribute_of, port_of, type_of};
 
@@ -21,7 +21,7 @@ pub struct AttributeLiteral<'a> {
     pub values: Values<'a>,
 }
 
-/// A port, with its target and how few and how many links it has.
+/// A port, with its target, how few and how many links it has, and the name of its inverse.
 #[derive(Clone, Copy)]
 pub struct PortLiteral<'a> {
     pub name: &'a [u8],
@@ -29,6 +29,7 @@ pub struct PortLiteral<'a> {
     pub target: u32,
     pub low: u32,
     pub high: u32,
+    pub inverse: Option<&'a [u8]>,
 }
 
 /// A type, with its parent's number.
@@ -62,7 +63,7 @@ pub fn words<'a>(name: &'a [u8], words: &'a [&'a [u8]]) -> AttributeLiteral<'a>
     }
 }
 
-/// A port to instances under the target.
+/// A port without inverse to instances under the target.
 pub fn port<'a>(name: &'a [u8], kind: PortKind, target: u32, low: u32, high: u32) -> PortLiteral<'a>
     ensures { port_of result ≡ record {
       name = name_of name.now;
@@ -70,6 +71,7 @@ pub fn port<'a>(name: &'a [u8], kind: PortKind, target: u32, low: u32, high: u32
       target = target;
       low = low;
       high = high;
+      inverse = None;
     } }
 {
     PortLiteral {
@@ -78,6 +80,17 @@ pub fn port<'a>(name: &'a [u8], kind: PortKind, target: u32, low: u32, high: u32
         target,
         low,
         high,
+        inverse: None,
+    }
+}
+
+/// The port with an inverse of this name.
+pub fn with_inverse<'a>(port: PortLiteral<'a>, inverse: &'a [u8]) -> PortLiteral<'a>
+    ensures { port_of result ≡ record (port_of port.entry) { inverse = Some (name_of inverse.now) } }
+{
+    PortLiteral {
+        inverse: Some(inverse),
+        ..port
     }
 }
 

@@ -291,3 +291,10 @@ ports_narrow m is t u under =
       | inr more ↦ has_each_trans (IsPortWithin m) (port_within_trans m) (ports_at m u) (ports_at m more.0) (ports_at m t)
           (each more.0 more.1 more.2) (ports_kept m is t more.0 more.1)
     ]) t under
+
+-- And so it has each that is declared there.
+pub declared_ports_narrow : (m : Model) → IsDeclared m → (t u : ℕ) → IsTrue (is_a m t u) → HasEach (IsPortWithin m) (declared_ports_at m u) (ports_at m t)
+declared_ports_narrow m is t u under k p there =
+    let narrowed = ports_narrow m is t u under k (with_inverse m p) (at_map (with_inverse m) (declared_ports_at m u) k p there) in
+    let within = narrowed.2 in
+    (narrowed.0, narrowed.1, record { same_id = within.same_id; low = within.low; high = within.high; target = within.target })

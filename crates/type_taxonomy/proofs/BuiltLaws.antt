@@ -11,7 +11,7 @@ use Rattle.prod_model.specs.declared.model.PortDecl.{PortDecl}
 use Rattle.prod_model.specs.declared.model.AttrAt.{AttrAt}
 use Rattle.prod_model.specs.declared.model.PortAt.{PortAt}
 use Rattle.prod_model.specs.Valid.{has_room_at}
-use Rattle.prod_model.specs.Taxonomy.{made_attribute, made_port, attributes_at, ports_at, tables_of}
+use Rattle.prod_model.specs.Taxonomy.{made_attribute, made_port, attributes_at, declared_ports_at, declared_tables_of}
 use Rattle.type_taxonomy.specs.declared.entry.Entry.{Entry}
 use Rattle.prod_model.specs.Forest.{line, is_a, type_numbers}
 use Rattle.prod_model.proofs.NoTypes.{is_a_outside}
@@ -70,7 +70,7 @@ attributes_row f t row built within read =
     sym (finished_attributes row) ∙ ap (λ es. map (λ e. e.what) (map (under attribute_at) es)) is_row ∙ ap (map (λ e. e.what)) (attributes_finished f.model.now.types t)
 
 pub ports_row : (f : Forest) (t : ℕ) (row : List (Entry PortDecl)) → IsBuilt f → t < length f.model.now.types → row ≡ get_or f.ports t row
-    → map (λ e. made_port e.id e.declared.now) row ≡ ports_at f.model.now t
+    → map (λ e. made_port e.id e.declared.now) row ≡ declared_ports_at f.model.now t
 ports_row f t row built within read =
     let is_row : map (named (λ d. d.name)) row ≡ placed_of (λ d. d.ports) (λ d. d.name) f.model.now.types t =
     table_map_row (map (named (λ d. d.name))) (placed_of (λ d. d.ports) (λ d. d.name) f.model.now.types) f.ports (length f.model.now.types) t row built.ports within read in
@@ -86,14 +86,14 @@ all_rows made at rows n size each =
 -- all rows, finished, are the tables
 pub tables_built : (f : Forest) (attributes : List (List AttrAt)) (ports : List (List PortAt)) → IsBuilt f
     → attributes ≡ map (map (λ e. made_attribute e.id e.declared.now)) f.attributes → ports ≡ map (map (λ e. made_port e.id e.declared.now)) f.ports
-    → record { attributes = attributes; ports = ports } ≡ tables_of f.model.now
-unfolding tables_of
+    → record { attributes = attributes; ports = ports } ≡ declared_tables_of f.model.now
+unfolding declared_tables_of
 tables_built f attributes ports built are_attributes are_ports =
     let all_attributes : attributes ≡ map (attributes_at f.model.now) (type_numbers f.model.now.types) =
     are_attributes ∙ all_rows (λ e. made_attribute e.id e.declared.now) (attributes_at f.model.now) f.attributes (length f.model.now.types) (length_attributes f built)
     (λ t row within read. attributes_row f t row built within read) in
-    let all_ports : ports ≡ map (ports_at f.model.now) (type_numbers f.model.now.types) =
-    are_ports ∙ all_rows (λ e. made_port e.id e.declared.now) (ports_at f.model.now) f.ports (length f.model.now.types) (length_ports f built)
+    let all_ports : ports ≡ map (declared_ports_at f.model.now) (type_numbers f.model.now.types) =
+    are_ports ∙ all_rows (λ e. made_port e.id e.declared.now) (declared_ports_at f.model.now) f.ports (length f.model.now.types) (length_ports f built)
     (λ t row within read. ports_row f t row built within read) in
     cc
 
@@ -104,6 +104,6 @@ pub room_told : (f : Forest) (t n k : ℕ) (attributes : List (Entry AttrDecl)) 
 room_told f t n k attributes ports built within read read_ports size size_ports =
     let few : n ≡ length (attributes_at f.model.now t) =
     size ∙ sym (length-map attributes (λ e. made_attribute e.id e.declared.now)) ∙ ap length (attributes_row f t attributes built within read) in
-    let few_ports : k ≡ length (ports_at f.model.now t) =
+    let few_ports : k ≡ length (declared_ports_at f.model.now t) =
     size_ports ∙ sym (length-map ports (λ e. made_port e.id e.declared.now)) ∙ ap length (ports_row f t ports built within read_ports) in
     ap (λ a. nat_le a 32 && nat_le k 16) few ∙ ap (λ b. nat_le (length (attributes_at f.model.now t)) 32 && nat_le b 16) few_ports

@@ -1,6 +1,6 @@
 //! The tables, from what each type has.
 ghost use Rattle.std.specs.Prelude.{◌≡◌, map, IfOk};
-ghost use Rattle.prod_model.specs.Taxonomy.{tables_of, made_attribute, made_port};
+ghost use Rattle.prod_model.specs.Taxonomy.{declared_tables_of, made_attribute, made_port};
 ghost use Rattle.type_taxonomy.specs.steps.Built.{IsBuilt};
 
 use crate::entry::Entry;
@@ -31,6 +31,7 @@ fn ports_of(alloc: Global, row: &[Entry<PortDecl>]) -> Result<Items<PortAt>, All
             target: e.declared.target,
             low: e.declared.low,
             high: e.declared.high,
+            inverse: None,
         })?;
     }
     Ok(ports)
@@ -67,7 +68,7 @@ fn all_ports(
 /// The tables of the model. It copies each domain.
 pub(crate) fn tables_of(alloc: Global, forest: &Forest) -> Result<Tables, AllocError>
     requires { IsBuilt forest.now }
-    ensures { IfOk result (λ tables. tables ≡ tables_of forest.now.model.now) }
+    ensures { IfOk result (λ tables. tables ≡ declared_tables_of forest.now.model.now) }
 {
     Ok(Tables {
         attributes: all_attributes(alloc, forest.attributes.as_slice())?,

@@ -1,6 +1,6 @@
 //! The tables of a model's taxonomy, or its first fault.
 ghost use Rattle.std.specs.Prelude.{◌≡◌, ◌<◌, ◌^◌, length, sum_by, IfOk, IfErr, IsTrue};
-ghost use Rattle.prod_model.specs.Taxonomy.{tables_of};
+ghost use Rattle.prod_model.specs.Taxonomy.{declared_tables_of};
 ghost use Rattle.prod_model.specs.Valid.{IsFormed, IsTaxonomy, has_distinct_names};
 ghost use Rattle.type_taxonomy.specs.Faults.{Faults};
 
@@ -30,7 +30,7 @@ use std::alloc::Global;
 /// with those that they narrow, 64 with 64 at most.
 pub fn build(alloc: Global, model: &Model) -> Result<Tables, TaxFault>
     requires { IsFormed model.now }
-    ensures tables { IfOk result (λ tables. tables ≡ tables_of model.now) }
+    ensures tables { IfOk result (λ tables. tables ≡ declared_tables_of model.now) }
     ensures taxonomy { IfOk result (λ _. IsTaxonomy model.now) }
     ensures fault { IfErr result (λ e. Faults model.now e) }
 {
@@ -44,7 +44,7 @@ pub(crate) fn build_few(alloc: Global, model: &Model) -> Result<Tables, TaxFault
     requires few { length model.now.types < 1000 }
     requires few_attributes { sum_by (λ d. length d.attributes) model.now.types < 2 ^ 32 }
     requires few_ports { sum_by (λ d. length d.ports) model.now.types < 2 ^ 32 }
-    ensures tables { IfOk result (λ tables. tables ≡ tables_of model.now) }
+    ensures tables { IfOk result (λ tables. tables ≡ declared_tables_of model.now) }
     ensures taxonomy { IfOk result
         (λ _. IsTrue (has_distinct_names model.now) → IsTaxonomy model.now) }
     ensures fault { IfErr result (λ e. Faults model.now e) }

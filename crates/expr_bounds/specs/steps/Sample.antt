@@ -15,7 +15,14 @@ abbrev pub range : List ℕ → ℤ → ℤ → AttrDecl
 range name low high = record { name = name; domain = Range low high }
 
 abbrev pub slot : ℕ → ℕ → PortDecl
-slot low high = record { name = codes "slot"; kind = Part; target = 1; low = low; high = high }
+slot low high = record {
+  name = codes "slot";
+  kind = Part;
+  target = 1;
+  low = low;
+  high = high;
+  inverse = None;
+}
 
 -- red, green and blue
 abbrev pub colours : List (List ℕ)
@@ -64,7 +71,14 @@ abbrev pub colour_at : List (List ℕ) → AttrAt
 colour_at words = record { id = 1; domain = Words words }
 
 abbrev pub slot_at : ℕ → ℕ → PortAt
-slot_at low high = record { id = 0; kind = Part; target = 1; low = low; high = high }
+slot_at low high = record {
+  id = 0;
+  kind = Part;
+  target = 1;
+  low = low;
+  high = high;
+  inverse = None;
+}
 
 abbrev pub sample_tables : Tables
 sample_tables = record {

@@ -1,8 +1,7 @@
-use Rattle.std.proofs.Common.{◌∙◌, sym, ap, subst}
+use Rattle.std.proofs.Common.{sym, subst}
 use Rattle.prod_model.specs.declared.model.Model.{Model}
-use Rattle.prod_model.specs.Taxonomy.{tables_of}
 use Rattle.prod_model.specs.Valid.{IsDeclared}
-use Rattle.expr_bounds.proofs.SampleLaws.{sample_is_declared, sample_has_tables}
+use Rattle.expr_bounds.proofs.SampleLaws.{sample_is_declared, are_sample_tables}
 use Rattle.expr_bounds.proofs.tests.told.Goals as goal
 
 pub bounds_of-outcome-requires-clause-declared : goal.bounds_of-outcome-requires-clause-declared
@@ -11,4 +10,4 @@ bounds_of-outcome-requires-clause-declared c =
 
 pub bounds_of-outcome-requires-clause-tables : goal.bounds_of-outcome-requires-clause-tables
 bounds_of-outcome-requires-clause-tables c =
-    c.in_ok-sample.sample.own_tables ∙ sample_has_tables ∙ ap tables_of (sym c.in_ok-sample.sample.same)
+    are_sample_tables c.in_ok-sample.sample.model c.in_ok-sample.sample.tables c.in_ok-sample.sample.same c.in_ok-sample.sample.own_tables
