@@ -13,7 +13,7 @@ use Rattle.config_value.specs.declared.configuration.Instance.{Instance}
 use Rattle.config_value.specs.Spelled.{is_spelled_value, is_spelled_links}
 use Rattle.canonical_form.specs.AnswerParts.{Part, attribute_part, port_part, end_part, header_part, instance_parts, parts_of, number_part, type_part}
 use Rattle.canonical_form.specs.steps.Grammar.{State, at_header, at_header_end, at_number, at_type, at_members, Leads, is_spelled_instance}
-use Rattle.canonical_form.proofs.SpelledPaths.{HasSpelledInstances, length_map_what, length_pointwise}
+use Rattle.canonical_form.proofs.SpelledPaths.{HasSpelledInstances, many_ports_at, length_pointwise}
 
 abbrev pub lines_from : Model → ℕ → List Instance → List Part
 lines_from m n c = flat_map (instance_parts m) (enumerate_from n c)
@@ -106,7 +106,7 @@ pub spelled_instance : (m : Model) (x : Instance) → IsTrue (is_leaf m x.kind) 
     → length x.links ≡ length (ports_of m.types x.kind) → list_all is_spelled_links x.links ≡ true → is_spelled_instance m x ≡ true
 spelled_instance m x leaf valued long linked =
     let values = length_pointwise (is_spelled_value m) (attributes_at m x.kind) x.values valued in
-    let ports = length_map_what (ports_of m.types x.kind) in
+    let ports = many_ports_at m x.kind in
     grind (arith, nat_tests)
 
 line_parts : (m : Model) (n : ℕ) (x : Instance) (others : List Part)

@@ -4,6 +4,7 @@ use Rattle.std.specs.Prelude.{IsTrue}
 use Rattle.std.specs.List.{list_all, flat_map, enumerate_from, zip}
 use Rattle.std.proofs.lemmas.Bool.Decides.{nat_tests}
 use lib.Pointwise.{pointwise}
+use Rattle.prod_model.proofs.Inverses.{length_ports_at}
 use Rattle.prod_model.specs.declared.model.Model.{Model}
 use Rattle.prod_model.specs.Limits.{most_instances}
 use Rattle.prod_model.specs.declared.model.AttrAt.{AttrAt}
@@ -72,8 +73,12 @@ pub length_map_what : {A : Type 0} (es : List (Named A)) → length (map (λ e. 
 length_map_what [] = refl
 length_map_what (e ∷ es) = ap suc (length_map_what es)
 
+-- a type has as many ports as entries of ports
+pub many_ports_at : (m : Model) (t : ℕ) → length (ports_at m t) ≡ length (ports_of m.types t)
+many_ports_at m t = length_ports_at m t ∙ length_map_what (ports_of m.types t)
+
 pub length_links : (m : Model) (x : Instance) → is_spelled_instance m x ≡ true → length x.links ≡ length (ports_of m.types x.kind)
-length_links m x spelled = let long : length x.links ≡ length (ports_at m x.kind) = grind (arith, nat_tests) in long ∙ length_map_what (ports_of m.types x.kind)
+length_links m x spelled = let long : length x.links ≡ length (ports_at m x.kind) = grind (arith, nat_tests) in long ∙ many_ports_at m x.kind
 
 instance_leads : (m : Model) (n : ℕ) (x : Instance) → n < most_instances → is_spelled_instance m x ≡ true → Leads m (at_number n) (instance_parts m (n, x)) (at_number (n + 1))
 unfolding instance_parts

@@ -116,6 +116,7 @@ fn port_rows(alloc: Global) -> Result<Items<Items<PortAt>>, AllocError>
         target: 2,
         low: 0,
         high: 9,
+        inverse: None,
     })?;
     let mut rows = Items::new(alloc);
     rows.push(Items::new(alloc))?;

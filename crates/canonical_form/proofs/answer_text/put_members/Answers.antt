@@ -7,6 +7,7 @@ use Rattle.canonical_form.specs.AnswerText.{attribute_text}
 use Rattle.canonical_form.specs.steps.Pieces.{attribute_piece, port_piece}
 use Rattle.canonical_form.proofs.FirstRows.{row_at, many_attributes, many_ports}
 use Rattle.canonical_form.proofs.LinePieces.{attributes_text, attributes_written, ports_text}
+use Rattle.canonical_form.proofs.SpelledPaths.{many_ports_at}
 use Rattle.canonical_form.proofs.answer_text.put_members.Goals as goal
 
 pub put_attributes-requires-clause-firsts : goal.put_attributes-requires-clause-firsts
@@ -32,7 +33,7 @@ put_ports-requires c =
     let m = c.args.known.now.problem.now in
     let firsts = c.index-firsts.result.now in
     let row = row_at m c.args.known.now.rows.items it.kind firsts c.requires.firsts c.requires.written.typed c.index-firsts.ensures in
-    ap length c.deref-2.ensures.value ∙ many_ports m it.kind firsts row ∙ sym (length-map (ports_of m.types it.kind) (λ e. e.what))
+    ap length c.deref-2.ensures.value ∙ many_ports m it.kind firsts row ∙ sym (many_ports_at m it.kind)
     ∙ sym c.requires.written.linked ∙ sym (ap length c.as_slice-2.ensures)
 
 pub returns : goal.returns

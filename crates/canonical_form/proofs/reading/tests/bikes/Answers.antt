@@ -10,12 +10,12 @@ use Rattle.prod_model.specs.declared.model.AttrAt.{AttrAt}
 use Rattle.prod_model.specs.declared.model.PortAt.{PortAt}
 use Rattle.prod_model.specs.Names.{is_name, is_word}
 use Rattle.prod_model.specs.Forest.{is_forest}
-use Rattle.prod_model.specs.Taxonomy.{tables_of, attributes_of, ports_of}
-use Rattle.prod_model.specs.Valid.{IsValid, has_short_lists, has_formed_names, has_distinct_names, has_numbers_in_limits, has_known_parents_and_targets, has_known_types, has_narrowings, has_room, has_one_bound_each, has_faultless_rules}
+use Rattle.prod_model.specs.Taxonomy.{tables_of, attributes_of, ports_of, inverse_of}
+use Rattle.prod_model.specs.Valid.{IsValid, has_short_lists, has_formed_names, has_distinct_names, has_numbers_in_limits, has_known_parents_and_targets, has_known_types, has_narrowings, has_room, has_one_bound_each, has_faultless_rules, has_right_inverses}
 use Rattle.canonical_form.proofs.reading.tests.bikes.Goals as goal
 
 computing : Unit {0}
-unfolding is_forest attributes_of ports_of tables_of is_name is_word has_short_lists has_formed_names has_distinct_names has_numbers_in_limits has_known_parents_and_targets has_known_types has_narrowings has_room has_one_bound_each has_faultless_rules
+unfolding is_forest attributes_of ports_of tables_of is_name is_word has_short_lists has_formed_names has_distinct_names has_numbers_in_limits has_known_parents_and_targets has_known_types has_narrowings has_room has_one_bound_each has_faultless_rules has_right_inverses inverse_of
 computing = tt
 
 abbrev types_of_bikes : List TypeDecl
@@ -25,7 +25,7 @@ types_of_bikes =
       name = codes "Bike";
       parent = Some 0;
       attributes = record { name = codes "price"; domain = Range (pos 0) (pos 99) } ∷ record { name = codes "color"; domain = Words (codes "red" ∷ codes "blue" ∷ []) } ∷ [];
-      ports = record { name = codes "left"; kind = Part; target = 2; low = 0; high = 9 } ∷ [];
+      ports = record { name = codes "left"; kind = Part; target = 2; low = 0; high = 9; inverse = None } ∷ [];
     }
     ∷ record { name = codes "Wheel"; parent = None; attributes = []; ports = [] } ∷ []
 
@@ -33,7 +33,7 @@ abbrev attribute_rows : List (List AttrAt)
 attribute_rows = [] ∷ (record { id = 0; domain = Range (pos 0) (pos 99) } ∷ record { id = 1; domain = Words (codes "red" ∷ codes "blue" ∷ []) } ∷ []) ∷ [] ∷ []
 
 abbrev port_rows : List (List PortAt)
-port_rows = [] ∷ (record { id = 0; kind = Part; target = 2; low = 0; high = 9 } ∷ []) ∷ [] ∷ []
+port_rows = [] ∷ (record { id = 0; kind = Part; target = 2; low = 0; high = 9; inverse = None } ∷ []) ∷ [] ∷ []
 
 abbrev model_of : List TypeDecl → List CountBound → List Rule → Model
 model_of types bounds rules = record { root = 1; instances = 64; types = types; bounds = bounds; rules = rules }
@@ -48,6 +48,7 @@ is_valid = record {
     taxonomy = record { known_parents = refl; forest = refl; narrowings = refl; room = refl };
   };
   faultless_rules = refl;
+  right_inverses = refl;
 }
 
 valid_at : (types : List TypeDecl) (bounds : List CountBound) (rules : List Rule) → types ≡ types_of_bikes → bounds ≡ [] → rules ≡ [] → IsValid (model_of types bounds rules)
