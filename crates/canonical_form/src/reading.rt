@@ -56,7 +56,7 @@ fn read_instances(
 /// their names.
 ///
 /// The text is refused at the first line where it leaves the spelling of a configuration, with the
-/// code of the part at fault. At line 66 that is `Number`, since there are at most 64 instances.
+/// code of the part at fault. At line 258 that is `Number`, since there are at most 256 instances.
 /// `Memory` where memory runs out.
 pub fn read_answer(
     alloc: Global,

@@ -1,5 +1,6 @@
 -- Racks with cards: their keys, their ranks, and which of them come first, computed.
 use Rattle.std.specs.Prelude.{◌≡◌, pos, neg_ℤ, true, false, List, [], ◌∷◌, codes, map, refl}
+use Rattle.std.specs.List.{range_with_len}
 use Rattle.std.specs.declared.cmp.Ordering.TheVariants.{Less, Equal, Greater}
 use Rattle.prod_model.specs.declared.model.Criterion.{Criterion}
 use Rattle.prod_model.specs.declared.model.Order.{Order}
@@ -55,6 +56,11 @@ key_of_big_small = refl
 key_of_two_ports : key (two_ports_of [] (1 ∷ []) ∷ card ∷ []) ≡ pos 0 ∷ pos 0 ∷ pos 1 ∷ pos 1 ∷ pos 1 ∷ []
 unfolding key
 key_of_two_ports = refl
+
+-- An instance that links as many others as there can be has their number, and then all of them.
+key_of_most_links : key (instance 1 (pos 50 ∷ []) (range_with_len 1 255 ∷ []) ∷ []) ≡ pos 1 ∷ pos 50 ∷ pos 255 ∷ map pos (range_with_len 1 255)
+unfolding key
+key_of_most_links = refl
 
 -- A value may be negative.
 key_of_negative : key (instance 2 (neg_ℤ (pos 3) ∷ []) [] ∷ []) ≡ pos 2 ∷ neg_ℤ (pos 3) ∷ []

@@ -27,7 +27,7 @@ is_spelled_value m a v = elim a.domain [
 abbrev pub is_spelled_links : List ℕ → Bool
 is_spelled_links links = ascends links && list_all (λ j. nat_lt j Limits.most_instances) links
 
--- 1 to 64 instances, each of a leaf type, with as many values and lists of links as the type has
+-- 1 to 256 instances, each of a leaf type, with as many values and lists of links as the type has
 -- attributes and ports, and values and links that can be written
 unfoldable pub is_spelled : Model → List Instance → Bool
 is_spelled m c =

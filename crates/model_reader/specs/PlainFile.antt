@@ -110,7 +110,7 @@ plain_rules t d = do
 
 -- ---- the model
 
--- a number of instances from 1 to 64
+-- a number of instances from 1 to 256
 unfoldable pub instances_of : ℤ → Option ℕ
 instances_of (pos n) = provided (is_between 1 Limits.most_instances n) (Some n)
 instances_of (negsuc n) = None

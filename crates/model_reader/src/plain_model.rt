@@ -16,7 +16,7 @@ use prod_model::{Items, Model, Rule, TypeDecl};
 use serde_json::Value;
 use std::alloc::{AllocError, Global};
 
-/// A number of instances from 1 to 64.
+/// A number of instances from 1 to 256.
 #[tactic(auto, unfolding(crate::specs::PlainFile::instances_of))]
 fn instances_of(n: i64) -> Option<u32>
     ensures { result ≡ instances_of n }

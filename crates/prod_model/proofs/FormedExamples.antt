@@ -142,8 +142,8 @@ rule_named_as_type = simp (bounds_at_Kind, nesting_Kind)
 
 -- ---- numbers
 
--- The model allows 1 to 64 instances.
-instances : map (λ n. broken (record base { instances = n })) (0 ∷ 1 ∷ 64 ∷ 65 ∷ []) ≡ only (codes "numbers in limits") ∷ [] ∷ [] ∷ only (codes "numbers in limits") ∷ []
+-- The model allows 1 to 256 instances.
+instances : map (λ n. broken (record base { instances = n })) (0 ∷ 1 ∷ 256 ∷ 257 ∷ []) ≡ only (codes "numbers in limits") ∷ [] ∷ [] ∷ only (codes "numbers in limits") ∷ []
 unfolding broken
 instances = refl
 
@@ -160,18 +160,18 @@ bad_ranges : map broken (
 unfolding broken
 bad_ranges = refl
 
--- A port has 0 to 64 links, with its least number first.
-pairs : map broken (of_pair 0 0 ∷ of_pair 0 64 ∷ of_pair 64 64 ∷ []) ≡ [] ∷ [] ∷ [] ∷ []
+-- A port has 0 to 256 links, with its least number first.
+pairs : map broken (of_pair 0 0 ∷ of_pair 0 256 ∷ of_pair 256 256 ∷ []) ≡ [] ∷ [] ∷ [] ∷ []
 unfolding broken
 pairs = refl
 
-bad_pairs : map broken (of_pair 2 1 ∷ of_pair 0 65 ∷ of_pair 65 65 ∷ []) ≡ replicate 3 (only (codes "numbers in limits"))
+bad_pairs : map broken (of_pair 2 1 ∷ of_pair 0 257 ∷ of_pair 257 257 ∷ []) ≡ replicate 3 (only (codes "numbers in limits"))
 unfolding broken
 bad_pairs = refl
 
 -- So has an entry of `bounds`.
 counted : map (λ b. broken (record base { bounds = b ∷ [] })) (
-    record { kind = 1; low = 0; high = 0 } ∷ record { kind = 1; low = 64; high = 64 } ∷ record { kind = 1; low = 2; high = 1 } ∷ record { kind = 1; low = 0; high = 65 } ∷ [])
+    record { kind = 1; low = 0; high = 0 } ∷ record { kind = 1; low = 256; high = 256 } ∷ record { kind = 1; low = 2; high = 1 } ∷ record { kind = 1; low = 0; high = 257 } ∷ [])
     ≡ [] ∷ [] ∷ only (codes "numbers in limits") ∷ only (codes "numbers in limits") ∷ []
 unfolding broken
 counted = refl

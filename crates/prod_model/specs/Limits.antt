@@ -27,11 +27,11 @@ most_words = 64
 
 -- how many instances a model allows a configuration at most
 abbrev pub most_instances : ℕ
-most_instances = 64
+most_instances = 256
 
 -- the greatest number of links of a port, and of instances in an entry of `bounds`
 abbrev pub most_links : ℕ
-most_links = 64
+most_links = 256
 
 -- how many rules a model has at most
 abbrev pub most_rules : ℕ

@@ -22,10 +22,10 @@ pub const MOST_WORDS: usize = 64;
 pub const MOST_NAME_BYTES: usize = 32;
 
 /// How many instances a model allows a configuration at most.
-pub const MOST_INSTANCES: usize = 64;
+pub const MOST_INSTANCES: usize = 256;
 
 /// The greatest number of links of a port, and of instances in an entry of `bounds`.
-pub const MOST_LINKS: usize = 64;
+pub const MOST_LINKS: usize = 256;
 
 /// How many rules a model has at most.
 pub const MOST_RULES: usize = 1000;

@@ -75,9 +75,9 @@ pub struct PortDecl {
     pub kind: PortKind,
     /// The type under which the linked instances are.
     pub target: u32,
-    /// The least number of links, 0 to 64.
+    /// The least number of links, 0 to 256.
     pub low: u32,
-    /// The greatest number of links, `low` to 64.
+    /// The greatest number of links, `low` to 256.
     pub high: u32,
     /// The name of the target's port that links back wherever this one links, if there is one. Only
     /// a new declaration may have it.
@@ -99,9 +99,9 @@ pub struct TypeDecl {
 pub struct CountBound {
     /// The number of the type. No two bounds have the same.
     pub kind: u32,
-    /// The least number of instances, 0 to 64.
+    /// The least number of instances, 0 to 256.
     pub low: u32,
-    /// The greatest number of instances, `low` to 64.
+    /// The greatest number of instances, `low` to 256.
     pub high: u32,
 }
 
@@ -120,7 +120,7 @@ pub struct Rule {
 pub struct Model {
     /// The number of the type that the root product is under.
     pub root: u32,
-    /// The greatest number of instances of a configuration, 1 to 64.
+    /// The greatest number of instances of a configuration, 1 to 256.
     pub instances: u32,
     /// At most 128.
     pub types: Items<TypeDecl>,
@@ -208,9 +208,9 @@ pub struct PortAt {
     pub kind: PortKind,
     /// The type under which the linked instances are.
     pub target: u32,
-    /// The least number of links, 0 to 64.
+    /// The least number of links, 0 to 256.
     pub low: u32,
-    /// The greatest number of links, `low` to 64.
+    /// The greatest number of links, `low` to 256.
     pub high: u32,
     /// The id of its inverse, if it has one: where an instance links another by this port, the other
     /// links it by that one.

@@ -133,7 +133,7 @@ fn bikes(alloc: Global) -> Result<Problem, AllocError>
     let ports = port_rows(alloc)?;
     let model = Model {
         root: 1,
-        instances: 64,
+        instances: 256,
         types,
         bounds: Items::new(alloc),
         rules: Items::new(alloc),
@@ -178,10 +178,12 @@ fn tells_the_first_bad_line(rt: HostRuntime) -> Result<(), Fail> {
         ("preferred\n0 Bike price=1 color=red left:1,1\n", 2, 5),
         ("preferred\n0 Bike price=1 color=red left:1,\n", 2, 5),
         ("preferred\n0 Bike price=1 color=red left:01\n", 2, 5),
-        ("preferred\n0 Bike price=1 color=red left:64\n", 2, 5),
+        ("preferred\n0 Bike price=1 color=red left:256\n", 2, 5),
+        ("preferred\n0 Bike price=1 color=red left:255,256\n", 2, 5),
         ("preferred\n0 Bike price=1 color=red left:,\n", 2, 6),
         ("preferred\n0 Bike price=1 color=red left:-\n", 2, 6),
-        ("preferred\n0 Bike price=1 color=red left:63 \n", 2, 6),
+        ("preferred\n0 Bike price=1 color=red left:64 \n", 2, 6),
+        ("preferred\n0 Bike price=1 color=red left:255 \n", 2, 6),
         ("preferred\n0 Wheel", 2, 6),
         ("preferred\n0 Wheel\r\n", 2, 6),
     ] {
@@ -199,7 +201,7 @@ fn reads_what_it_writes(rt: HostRuntime) -> Result<(), Fail> {
         "preferred\n0 Wheel\n",
         "preferred\n0 Bike price=0 color=blue left:\n",
         "preferred\n0 Bike price=-1000000 color=red left:0\n",
-        "preferred\n0 Bike price=1000000 color=red left:1,2,10,63\n1 Wheel\n2 Wheel\n",
+        "preferred\n0 Bike price=1000000 color=red left:1,2,10,64,255\n1 Wheel\n2 Wheel\n",
     ] {
         let read = read_answer(alloc, &problem, text.as_bytes());
         let Ok(c) = read else {
@@ -211,18 +213,25 @@ fn reads_what_it_writes(rt: HostRuntime) -> Result<(), Fail> {
     Ok(())
 }
 
+/// The line `preferred`, and so many lines of wheels.
+fn wheels(alloc: Global, count: u64) -> Result<Vec<u8>, AllocError> {
+    let mut text = Vec::from_slice(alloc, b"preferred\n")?;
+    for number in 0..count {
+        crate::numbers::put_number(&mut text, number)?;
+        text.extend_from_slice(b" Wheel\n")?;
+    }
+    Ok(text)
+}
+
 #[test]
 fn no_line_stands_behind_the_last_instance(rt: HostRuntime) -> Result<(), Fail> {
     let alloc = rt.alloc();
     let problem = bikes(alloc)?;
-    let mut text = Vec::from_slice(alloc, b"preferred\n")?;
-    for number in 0..64u64 {
-        crate::numbers::put_number(&mut text, number)?;
-        text.extend_from_slice(b" Wheel\n")?;
+    for count in [64, 65, 256] {
+        let read = read_answer(alloc, &problem, &wheels(alloc, count)?);
+        assert!(rt; read.is_ok(), "{count} instances");
     }
-    assert!(rt; read_answer(alloc, &problem, &text).is_ok());
-    text.extend_from_slice(b"64 Wheel\n")?;
-    let fault = fault_of(alloc, &problem, &text);
-    assert_eq!(rt; fault, Some((66, 2)));
+    let fault = fault_of(alloc, &problem, &wheels(alloc, 257)?);
+    assert_eq!(rt; fault, Some((258, 2)));
     Ok(())
 }

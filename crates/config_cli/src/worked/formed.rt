@@ -197,7 +197,7 @@ fn has_ends(domain: &Domain) -> bool
 fn is_pair(low: u32, high: u32) -> bool
     ensures { result ≡ pair_is_in_order low high }
 {
-    low <= high && high <= 64
+    low <= high && high <= 256
 }
 
 fn have_ends(attributes: &[AttrDecl]) -> bool
@@ -237,7 +237,7 @@ fn has_numbers_in_limits(model: &Model) -> bool
     ensures { result ≡ numbers_are_in_limits model.now }
 {
     1 <= model.instances
-        && model.instances <= 64
+        && model.instances <= 256
         && are_bounds(model.bounds.as_slice())
         && have_numbers_in_limits(model.types.as_slice())
 }

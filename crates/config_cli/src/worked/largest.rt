@@ -1,4 +1,4 @@
-//! The largest product: 64 instances that link each other, and 1,000 rules about what they link.
+//! The largest product: 256 instances that link each other, and 1,000 rules about what they link.
 use super::expressions::{Made, all, any, not};
 use super::literals::rule;
 use super::models::meshes;
@@ -10,10 +10,10 @@ use std::alloc::{AllocError, Global};
 use std::fmt::Write;
 use std::test::Fail;
 
-/// One line of an answer: the node of that number, which links all 64.
+/// One line of an answer: the node of that number, which links all 256.
 fn write_node(text: &mut String, number: u32) -> Result<(), AllocError> {
     write!(text, "{number} Node next:0")?;
-    for linked in 1..64 {
+    for linked in 1..256 {
         write!(text, ",{linked}")?;
     }
     writeln!(text)
@@ -21,7 +21,7 @@ fn write_node(text: &mut String, number: u32) -> Result<(), AllocError> {
 
 fn mesh(alloc: Global) -> Result<String, AllocError> {
     let mut text = String::from_str(alloc, "preferred\n")?;
-    for number in 0..64 {
+    for number in 0..256 {
         write_node(&mut text, number)?;
     }
     Ok(text)
@@ -53,7 +53,7 @@ fn push_rules(alloc: Global, model: &mut Model) -> Result<(), AllocError> {
     model.rules.push(rule(alloc, b"fails", 0, fails)?)
 }
 
-/// Each level of a nested rule has 64 times as many links to follow, if they are followed one by
+/// Each level of a nested rule has 256 times as many links to follow, if they are followed one by
 /// one.
 #[test]
 fn checks_a_mesh(rt: HostRuntime) -> Result<(), Fail> {

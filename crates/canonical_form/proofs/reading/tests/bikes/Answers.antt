@@ -36,7 +36,7 @@ abbrev port_rows : List (List PortAt)
 port_rows = [] ∷ (record { id = 0; kind = Part; target = 2; low = 0; high = 9; inverse = None } ∷ []) ∷ [] ∷ []
 
 abbrev model_of : List TypeDecl → List CountBound → List Rule → Model
-model_of types bounds rules = record { root = 1; instances = 64; types = types; bounds = bounds; rules = rules }
+model_of types bounds rules = record { root = 1; instances = 256; types = types; bounds = bounds; rules = rules }
 
 is_valid : IsValid (model_of types_of_bikes [] [])
 unfolding computing
