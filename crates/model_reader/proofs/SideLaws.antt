@@ -17,17 +17,16 @@ use Rattle.prod_model.specs.declared.model.Domain.TheVariants.{Range, Words}
 use Rattle.prod_model.specs.declared.expr_bounds.Bounds.{Bounds}
 use Rattle.prod_model.specs.declared.expr_bounds.Bounds.TheVariants.{Number as number, Truth as truth}
 use Rattle.prod_model.specs.declared.expr.Expr.{Expr}
-use Rattle.prod_model.specs.declared.expr.Expr.TheOpen.{Num, Attr, Cmp}
 use Rattle.prod_model.specs.declared.expr.Expr.TheViews.{out-Expr}
-use Rattle.prod_model.specs.declared.expr.Expr.TheFolds.{fold-roll-Expr}
 use Rattle.prod_model.specs.declared.expr.Expr.TheVariants as v
 use Rattle.prod_model.specs.declared.expr.Relation.{Relation}
 use Rattle.prod_model.specs.Names.{same_text}
 use Rattle.prod_model.specs.Limits.{is_within, farthest_bound, farthest_end}
 use Rattle.prod_model.specs.Taxonomy.{attribute_of, attributes_at}
-use Rattle.prod_model.specs.Nesting.{nesting, layer_nesting}
-use Rattle.prod_model.specs.ExprBounds.{bounds_at, layer_bounds, bounded, comparison, of_range, is_truth_at, is_truth, is_number}
+use Rattle.prod_model.specs.Nesting.{nesting}
+use Rattle.prod_model.specs.ExprBounds.{bounds_at, bounded, comparison, of_range, is_truth_at, is_truth, is_number}
 use Rattle.prod_model.specs.Valid.{has_ends}
+use Rattle.prod_model.proofs.ExprBoundsLaws as laws
 use Rattle.model_reader.specs.Plain.{is_range, is_plain_side, is_plain_comparison}
 use Rattle.model_reader.specs.steps.PlainTable.{row_from}
 use Rattle.model_reader.specs.Files.{◌>>=◌, list_of, two_of, three_of}
@@ -35,32 +34,26 @@ use Rattle.model_reader.specs.PlainFile.{attribute_named, plain_attr, plain_numb
 use Rattle.model_reader.proofs.StepLaws.{provided_test, provided_value, found_then}
 use Rattle.model_reader.proofs.RowLaws.{found_in}
 
--- ---- the laws of the three forms
+-- ---- the laws of the three forms, as a reader makes them
 
 module _ (m : Model) (t : ℕ) where
   bounds_at_Num : (n : ℤ) → bounds_at m (v.Num n) t ≡ bounded n n
-  unfolding bounds_at
-  bounds_at_Num n = ap (λ (e : Expr). bounds_at m e t) (sym (v.rolls-Num n)) ∙ ap (λ (f : ℕ → Option Bounds). f t) (fold-roll-Expr (ℕ → Option Bounds) (layer_bounds m) (Num n))
+  bounds_at_Num n = ap (λ (e : Expr). bounds_at m e t) (sym (v.rolls-Num n)) ∙ laws.bounds_at_Num m t n
 
   bounds_at_Attr : (a : ℕ) → bounds_at m (v.Attr a) t ≡ option_and_then (of_range bounded) (attribute_of m t a)
-  unfolding bounds_at
-  bounds_at_Attr a = ap (λ (e : Expr). bounds_at m e t) (sym (v.rolls-Attr a)) ∙ ap (λ (f : ℕ → Option Bounds). f t) (fold-roll-Expr (ℕ → Option Bounds) (layer_bounds m) (Attr a))
+  bounds_at_Attr a = ap (λ (e : Expr). bounds_at m e t) (sym (v.rolls-Attr a)) ∙ laws.bounds_at_Attr m t a
 
   bounds_at_Cmp : (r : Relation) (x y : Expr) → bounds_at m (v.Cmp r x y) t ≡ comparison (bounds_at m x t) (bounds_at m y t)
-  unfolding bounds_at
-  bounds_at_Cmp r x y = ap (λ (e : Expr). bounds_at m e t) (sym (v.rolls-Cmp r x y)) ∙ ap (λ (f : ℕ → Option Bounds). f t) (fold-roll-Expr (ℕ → Option Bounds) (layer_bounds m) (Cmp r x y))
+  bounds_at_Cmp r x y = ap (λ (e : Expr). bounds_at m e t) (sym (v.rolls-Cmp r x y)) ∙ laws.bounds_at_Cmp m t r x y
 
 nesting_Num : (n : ℤ) → nesting (v.Num n) ≡ 1
-unfolding nesting
-nesting_Num n = ap nesting (sym (v.rolls-Num n)) ∙ fold-roll-Expr ℕ layer_nesting (Num n)
+nesting_Num n = ap nesting (sym (v.rolls-Num n)) ∙ laws.nesting_Num n
 
 nesting_Attr : (a : ℕ) → nesting (v.Attr a) ≡ 1
-unfolding nesting
-nesting_Attr a = ap nesting (sym (v.rolls-Attr a)) ∙ fold-roll-Expr ℕ layer_nesting (Attr a)
+nesting_Attr a = ap nesting (sym (v.rolls-Attr a)) ∙ laws.nesting_Attr a
 
 nesting_Cmp : (r : Relation) (x y : Expr) → nesting (v.Cmp r x y) ≡ 1 + max (nesting x) (nesting y)
-unfolding nesting
-nesting_Cmp r x y = ap nesting (sym (v.rolls-Cmp r x y)) ∙ fold-roll-Expr ℕ layer_nesting (Cmp r x y)
+nesting_Cmp r x y = ap nesting (sym (v.rolls-Cmp r x y)) ∙ laws.nesting_Cmp r x y
 
 truth_of_numbers : (x y : Option Bounds) → is_number x ≡ true → is_number y ≡ true → is_truth (comparison x y) ≡ true
 truth_of_numbers (Some (number a b)) (Some (number c d)) p q = refl
