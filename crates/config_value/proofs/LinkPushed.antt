@@ -6,7 +6,7 @@ use Rattle.std.proofs.lemmas.List.Folds.{find-append}
 use Rattle.std.proofs.lemmas.Iterator.Adapters.{position_from-zero}
 use Rattle.std.proofs.lemmas.Bool.Decides.{nat_tests}
 use Rattle.config_value.specs.Numbered.{Link}
-use Rattle.config_value.proofs.Mention.{leads_to, from_lower, mentioned_lower, comes_before, mentioned_before}
+use Rattle.config_value.proofs.Mention.{is_some_position, leads_to, from_lower, mentioned_lower, comes_before, mentioned_before}
 
 -- ---- what is first found, with one element more
 
@@ -20,14 +20,6 @@ position_from_pushed p i (x ∷ ls) l =
     ap (cond (p x) (Some i)) (position_from_pushed p (i + 1) ls l)
     ∙ or_cond (p x) i (position_from p (i + 1) ls) (cond (p l) (Some (i + 1 + length ls)) None)
     ∙ ap (λ n. option_or (cond (p x) (Some i) (position_from p (i + 1) ls)) (cond (p l) (Some n) None)) (omega arith)
-
-is_some_cond : {A B : Type 0} (b : Bool) (x : A) (y : B) (o : Option A) (q : Option B) → is_some o ≡ is_some q → is_some (cond b (Some x) o) ≡ is_some (cond b (Some y) q)
-is_some_cond true x y o q same = refl
-is_some_cond false x y o q same = same
-
-is_some_from : (p : Link → Bool) (i : ℕ) (ls : List Link) → is_some (position_from p i ls) ≡ is_some (find p ls)
-is_some_from p i [] = refl
-is_some_from p i (x ∷ ls) = is_some_cond (p x) i x (position_from p (i + 1) ls) (find p ls) (is_some_from p (i + 1) ls)
 
 from_below_cond : (b : Bool) (i n : ℕ) (o : Option ℕ) → i < n → option_map_or (λ a. nat_lt a n) o true ≡ true → option_map_or (λ a. nat_lt a n) (cond b (Some i) o) true ≡ true
 from_below_cond true i n o low below = lt-ltb i n low
@@ -45,10 +37,6 @@ position_pushed p ls l =
     position_from-zero p (ls ++ l ∷ []) ∙ position_from_pushed p 0 ls l
     ∙ ap (λ n. option_or (position_from p 0 ls) (cond (p l) (Some n) None)) (omega arith)
     ∙ ap (λ o. option_or o (cond (p l) (Some (length ls)) None)) (sym (position_from-zero p ls))
-
--- an element that is found has a place
-is_some_position : (p : Link → Bool) (ls : List Link) → is_some (position p ls) ≡ is_some (find p ls)
-is_some_position p ls = ap is_some (position_from-zero p ls) ∙ is_some_from p 0 ls
 
 position_below : (p : Link → Bool) (ls : List Link) → option_map_or (λ a. nat_lt a (length ls)) (position p ls) true ≡ true
 position_below p ls = ap (λ o. option_map_or (λ a. nat_lt a (length ls)) o true) (position_from-zero p ls) ∙ from_below p 0 (length ls) ls (omega arith)

@@ -52,7 +52,7 @@ is_some_cond false x y f o None same = same
 is_some_cond false x y f o (Some z) same = same
 
 -- an element that is found has a place
-is_some_position : (p : Link → Bool) (ls : List Link) → is_some (position p ls) ≡ is_some (find p ls)
+pub is_some_position : (p : Link → Bool) (ls : List Link) → is_some (position p ls) ≡ is_some (find p ls)
 is_some_position p [] = refl
 is_some_position p (l ∷ ls) =
     ap is_some (position_cons p l ls)
