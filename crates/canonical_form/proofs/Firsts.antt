@@ -6,6 +6,7 @@ use Rattle.std.proofs.lemmas.Cmp.{nat_list_eq_equiv}
 use Rattle.std.proofs.lemmas.List.{reverse-append}
 use Rattle.std.proofs.lemmas.List.Folds.{list_any-append}
 use Rattle.std.proofs.lemmas.Grind.{flat_map-append, fold-append}
+use Rattle.base_laws.proofs.Lists.{filter_same, list_any_flat_map_reverse}
 use Rattle.prod_model.specs.declared.model.TypeDecl.{TypeDecl}
 use Rattle.prod_model.specs.Names.{same_text, is_distinct}
 use Rattle.prod_model.specs.Forest.{ancestors}
@@ -13,17 +14,6 @@ use Rattle.prod_model.specs.Taxonomy.{declarations_of, new_declarations}
 use Rattle.prod_model.proofs.NameLaws.{same_text_symm}
 use Rattle.prod_model.proofs.ForestLines.{IsLine}
 use Rattle.canonical_form.specs.steps.FirstDeclared.{with_new, firsts_of}
-
--- a list passes a test turned round as it does as it stands
-list_any_flat_map_reverse : {X Y : Type 0} (p : Y → Bool) (f : X → List Y) (xs : List X) → list_any p (flat_map f (reverse xs)) ≡ list_any p (flat_map f xs)
-list_any_flat_map_reverse p f [] = refl
-list_any_flat_map_reverse p f (x ∷ xs) =
-    let turned = ap (list_any p) (ap (flat_map f) (reverse-append (x ∷ []) xs) ∙ flat_map-append f (reverse xs) (x ∷ [])) in
-    let parts = list_any-append p (flat_map f (reverse xs)) (flat_map f (x ∷ [])) in
-    let more = list_any-append p (f x) (flat_map f xs) in
-    let one = list_any-append p (f x) [] in
-    let rest = list_any_flat_map_reverse p f xs in
-    grind (arith)
 
 module _ {D : Type 0} (name_of : D → List ℕ) where
   -- one of the declarations has the name of d
@@ -67,11 +57,6 @@ module _ {D : Type 0} (name_of : D → List ℕ) where
       let other = filter_other firsts d ds in
       let assoc = append_assoc firsts (d ∷ []) (filter (λ x. not (is_named firsts x)) ds) in
       grind (arith)
-
--- what passes two tests that agree is the same
-filter_same : {X : Type 0} (p q : X → Bool) → ((x : X) → p x ≡ q x) → (xs : List X) → filter p xs ≡ filter q xs
-filter_same p q same [] = refl
-filter_same p q same (x ∷ xs) = let here = same x in let rest = filter_same p q same xs in grind (arith)
 
 module _ {D : Type 0} (declared : TypeDecl → List D) (name_of : D → List ℕ) where
   -- no type declares a name twice

@@ -3,7 +3,7 @@ use Rattle.std.proofs.Common.{◌≡◌, ℕ, ℤ, pos, negsuc, zero, suc, ◌<�
 use Rattle.std.specs.Prelude.{IsTrue, nat_le, slice_get, slice_index_or, sum_by}
 use Rattle.std.specs.Option.{option_map_or}
 use Rattle.std.specs.List.{list_all, list_any, filter, flat_map}
-use Rattle.std.proofs.lemmas.Bool.{false≢true}
+use Rattle.std.proofs.lemmas.Bool.{false≢true, and_parts}
 use Rattle.std.proofs.lemmas.Bool.Decides.{nat_tests}
 use Rattle.std.proofs.lemmas.List.Folds.{list_all-append}
 use Rattle.prod_model.specs.declared.model.Model.{Model}
@@ -37,9 +37,6 @@ type_name_bytes [] more t formed = refl
 type_name_bytes (d ∷ types) more zero formed = name_bytes d.name (grind (arith))
 type_name_bytes (d ∷ types) more (suc t) formed = type_name_bytes types more t (grind (arith))
 
-first_of : (a b : Bool) → (a && b) ≡ true → a ≡ true
-first_of a b both = grind (arith)
-
 first_of_three : (a b c : Bool) → (a && b && c) ≡ true → a ≡ true
 first_of_three a b c all = grind (arith)
 
@@ -52,7 +49,7 @@ formed_types : (m : Model) → IsValid m
 unfolding has_formed_names
 formed_types m valid =
     types_formed m.types (λ d. is_name d.name) (λ d. list_all (λ a. is_name a.name && list_all is_word (words_of a.domain)) d.attributes) (λ d. list_all (λ p. is_name p.name) d.ports)
-    (first_of _ (list_all (λ (r : Rule). is_name r.name) m.rules) valid.declared.formed.formed_names)
+    (and_parts _ (list_all (λ (r : Rule). is_name r.name) m.rules) valid.declared.formed.formed_names).0
 
 pub type_bytes : (m : Model) (t : ℕ) → IsValid m → list_all is_name_byte (type_name m t) ≡ true
 type_bytes m t valid = type_name_bytes m.types _ t (formed_types m valid)

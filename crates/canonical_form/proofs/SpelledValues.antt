@@ -4,9 +4,9 @@ use Rattle.std.specs.Prelude.{IsTrue, slice_get}
 use Rattle.std.specs.Option.{option_map_or, option_map, option_and_then}
 use Rattle.std.specs.List.{list_all, list_any, find, fold, flat_map}
 use Rattle.std.specs.Cmp.Lexicographic.{same_text as text_same, nat_list_eq_equiv}
-use Rattle.std.proofs.lemmas.Bool.{false≢true}
+use Rattle.std.proofs.lemmas.Bool.{false≢true, and_parts, and_from}
 use Rattle.std.proofs.lemmas.Bool.Decides.{nat_tests}
-use Rattle.std.proofs.lemmas.List.Folds.{list_all-append, list_any-append}
+use Rattle.std.proofs.lemmas.List.Folds.{list_all-append, list_all-map, list_any-append}
 use Rattle.std.proofs.lemmas.Grind.{fold-append}
 use Rattle.std.proofs.lemmas.List.{reverse-append, map-append}
 use Rattle.prod_model.specs.declared.model.Model.{Model}
@@ -62,10 +62,6 @@ abbrev is_kept : List AttrDecl → Named AttrAt → Bool
 is_kept all e = option_map_or (λ d. same_form d.domain e.what.domain) (slice_get all e.what.id) false
 
 -- ---- lists
-
-all_map : {X Y : Type 0} (test : Y → Bool) (f : X → Y) (xs : List X) → list_all test (map f xs) ≡ list_all (λ x. test (f x)) xs
-all_map test f [] = refl
-all_map test f (x ∷ xs) = ap (λ b. test (f x) && b) (all_map test f xs)
 
 -- what was found passes, and what all pass it passes
 found_passes : {X : Type 0} (p q : X → Bool) (xs : List X) (x : X) → list_all q xs ≡ true → find p xs ≡ Some x → (p x ≡ true) × (q x ≡ true)
@@ -132,15 +128,6 @@ kept_narrow : (o : Option AttrDecl) (b c : Domain) → option_map_or (λ d. same
 kept_narrow None b c kept narrows = kept
 kept_narrow (Some d) b c kept narrows = form_narrows d.domain b c kept narrows
 
-last_of : (a b : Bool) → (a && b) ≡ true → b ≡ true
-last_of a b both = grind (arith)
-
-front_of : (a b : Bool) → (a && b) ≡ true → a ≡ true
-front_of a b both = grind (arith)
-
-both_true : (a b : Bool) → a ≡ true → b ≡ true → (a && b) ≡ true
-both_true a b first second = grind (arith)
-
 some_type : (types : List TypeDecl) (u : ℕ) → u < length types → slice_get types u ≡ None → ⊥
 some_type [] u within none = absurd (omega arith)
 some_type (d ∷ types) zero within none = absurd (cc)
@@ -164,7 +151,7 @@ module _ (m : Model) (valid : IsValid m) where
       ap (λ o. option_map (λ x. x.what) (option_and_then (λ t. find (λ x. same_text x.name a.name) (attributes_of m.types t)) o)) parent
       ∙ ap (λ n. option_map (λ x. x.what) (find (λ x. same_text x.name n) (attributes_of m.types p))) name
       ∙ ap (option_map (λ x. x.what)) named in
-      sym (ap (λ o. option_map_or (λ b. narrows_domain a.domain b.domain) o true) has) ∙ last_of _ (option_map_or (λ b. narrows_domain a.domain b.domain) (inherited attributes_of m d a.name) true) narrows
+      sym (ap (λ o. option_map_or (λ b. narrows_domain a.domain b.domain) o true) has) ∙ (and_parts _ (option_map_or (λ b. narrows_domain a.domain b.domain) (inherited attributes_of m d a.name) true) narrows).1
 
   -- an attribute that a declared type inherits, as the type has it
   one_kept : (d : TypeDecl) (p : ℕ) (e : Named AttrAt) (o : Option AttrDecl) → d.parent ≡ Some p → find (λ x. same_text x.name e.name) (attributes_of m.types p) ≡ Some e
@@ -180,15 +167,15 @@ module _ (m : Model) (valid : IsValid m) where
       → list_all (is_kept all_firsts) (map (kept_by d.attributes) (attributes_of m.types p)) ≡ true
   inherited_kept d p parent narrows kept =
       let es = attributes_of m.types p in
-      all_map (is_kept all_firsts) (kept_by d.attributes) es
+      list_all-map (is_kept all_firsts) (kept_by d.attributes) es
       ∙ list_all_from (λ e. is_kept all_firsts (kept_by d.attributes e)) es
       (λ k e at. one_kept d p e (find (λ a. same_text a.name e.name) d.attributes) parent (find_named es k e (names_distinct m p valid) at) refl narrows (list_all_at (is_kept all_firsts) es kept k e at))
 
   narrows_at : (u : ℕ) (d : TypeDecl) → slice_get m.types u ≡ Some d → list_all (attribute_narrows m d) d.attributes ≡ true
   unfolding has_narrowings
   narrows_at u d at =
-      front_of _ (list_all (port_narrows m d) d.ports)
-      (list_all_at (λ t. list_all (attribute_narrows m t) t.attributes && list_all (port_narrows m t) t.ports) m.types valid.declared.taxonomy.narrowings u d at)
+      (and_parts _ (list_all (port_narrows m d) d.ports)
+      (list_all_at (λ t. list_all (attribute_narrows m t) t.attributes && list_all (port_narrows m t) t.ports) m.types valid.declared.taxonomy.narrowings u d at)).0
 
   new_of_type : (u : ℕ) → u < length m.types → list_all (is_kept all_firsts) (new_entries (λ d. d.attributes) (λ d. d.name) made_attribute (λ d a. made_attribute a.id d)
       (first_id (λ d. d.attributes) (λ d. d.name) m.types u) (new_declarations (λ d. d.attributes) (λ d. d.name) m.types u)) ≡ true
@@ -221,7 +208,7 @@ module _ (m : Model) (valid : IsValid m) where
       let first : list_all (is_kept all_firsts) (map (kept_by (declarations_of (λ d. d.attributes) (λ d. d.name) m.types u)) es) ≡ true =
       ap (λ as'. list_all (is_kept all_firsts) (map (kept_by as') es)) ds ∙ kept_part u d vs d.parent at refl above kept in
       let new = new_of_type u within in
-      list_all-append (is_kept all_firsts) (map (kept_by (declarations_of (λ d. d.attributes) (λ d. d.name) m.types u)) es) _ ∙ both_true _ _ first new
+      list_all-append (is_kept all_firsts) (map (kept_by (declarations_of (λ d. d.attributes) (λ d. d.name) m.types u)) es) _ ∙ and_from _ _ first new
 
   kept_line : (us : List ℕ) → IsLine m.types us → ((q : ℕ) → list_any (nat_eq q) us ≡ true → q < length m.types) → list_all (is_kept all_firsts) (fold extended [] (reverse us)) ≡ true
   kept_line [] is within = refl
