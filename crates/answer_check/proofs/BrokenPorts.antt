@@ -2,7 +2,7 @@
 use Rattle.std.proofs.Common.{◌≡◌, ℕ, ◌<◌, ◌≤◌, ◌∙◌, ap, sym, subst, Bool, true, false, not, nat_le, List, length, Option, Some, Contains, refl, leb-true, le-leb, arith}
 use Rattle.std.specs.Prelude.{slice_get, position}
 use Rattle.std.specs.List.{zip}
-use Rattle.std.proofs.lemmas.Option.{same_Some, slice_get_within, slice_get-get_or, get_or_from_slice_get}
+use Rattle.std.proofs.lemmas.Option.{same_Some, slice_get_within}
 use Rattle.prod_model.specs.declared.model.Model.{Model}
 use Rattle.prod_model.specs.declared.model.PortAt.{PortAt}
 use Rattle.prod_model.specs.Taxonomy.{ports_at}
@@ -18,14 +18,8 @@ use Rattle.answer_check.specs.steps.Finds.{BreaksAt, FindsItem}
 use Rattle.answer_check.specs.steps.PortTests.{code_of, is_off, breaks_port}
 use Rattle.answer_check.proofs.Items.{Passes, finds_position, finds_same}
 use Rattle.answer_check.proofs.FewItems.{few_ports}
-use Rattle.base_laws.proofs.Lists.{slice_get_zip}
-use Rattle.base_laws.proofs.Lists.{zip_first, zip_second}
-
-contains_at : (xs : List ℕ) (k x : ℕ) → slice_get xs k ≡ Some x → Contains xs x
-contains_at xs k x at = (k, slice_get_within xs k x at, get_or_from_slice_get xs k x x at)
-
-at_contained : (xs : List ℕ) (x : ℕ) (among : Contains xs x) → slice_get xs among.0 ≡ Some x
-at_contained xs x among = slice_get-get_or xs among.0 x among.1 ∙ ap Some among.2
+use Rattle.base_laws.proofs.Lists.{slice_get_zip, zip_first, zip_second}
+use Rattle.base_laws.proofs.Elements.{contained_at, at_contained}
 
 module _ (m : Model) (c : List Instance) (i : ℕ) (x : Instance) (stands : slice_get c i ≡ Some x) where
   abbrev Test : PortTest → PortAt × List ℕ → Bool
@@ -42,12 +36,12 @@ module _ (m : Model) (c : List Instance) (i : ℕ) (x : Instance) (stands : slic
   breaks_from Leads k passing =
       let port = port_at 4 k passing.element passing.there in
       let found = list_any_at (λ j. nat_le (length c) j) passing.element.1 passing.passes in
-      no_instance refl passing.element.0 passing.element.1 found.1 port (contains_at passing.element.1 found.0 found.1 found.2) (leb-true (length c) found.1 found.3)
+      no_instance refl passing.element.0 passing.element.1 found.1 port (contained_at passing.element.1 found.0 found.1 found.2) (leb-true (length c) found.1 found.3)
   breaks_from OnTarget k passing =
       let port = port_at 5 k passing.element passing.there in
       let found = list_any_at (is_off m c passing.element.0.target) passing.element.1 passing.passes in
       let other = option_map_or_at (λ y. not (under m passing.element.0.target y)) (slice_get c found.1) found.3 in
-      off_target refl passing.element.0 passing.element.1 found.1 other.0 port (contains_at passing.element.1 found.0 found.1 found.2) other.1 (not-true _ other.2)
+      off_target refl passing.element.0 passing.element.1 found.1 other.0 port (contained_at passing.element.1 found.0 found.1 found.2) other.1 (not-true _ other.2)
   breaks_from Number k passing =
       bad_number refl passing.element.0 passing.element.1 (port_at 6 k passing.element passing.there) (not-true _ passing.passes)
 

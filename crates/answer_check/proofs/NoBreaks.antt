@@ -1,9 +1,9 @@
 -- A spelled configuration without breaks satisfies the model, and one that satisfies it has none.
-use Rattle.std.proofs.Common.{◌≡◌, ℕ, zero, suc, ◌+◌, ◌-◌, ◌<◌, ◌≤◌, inl, inr, ◌∙◌, ap, sym, Bool, true, false, not, ◌&&◌, ◌||◌, ◌==◌, nat_le, List, [], ◌∷◌, length, Some, Contains, refl, le-leb, leb-true, zero-add, arith}
+use Rattle.std.proofs.Common.{◌≡◌, ℕ, ◌-◌, ◌<◌, ◌≤◌, inl, inr, ◌∙◌, ap, sym, Bool, true, false, not, ◌&&◌, ◌||◌, ◌==◌, nat_le, List, length, Some, Contains, refl, le-leb, leb-true, zero-add, arith}
 use Rattle.std.specs.Prelude.{slice_get, IsTrue}
 use Rattle.std.specs.List.{list_all, count_by, enumerate_from, range_with_len}
 use Rattle.std.proofs.lemmas.Bool.{and_parts, and_from, cases_lt, true≢false}
-use Rattle.std.proofs.lemmas.Option.{same_Some, none-some, slice_get_within, slice_get_past, slice_get_cases, get_or_from_slice_get, slice_get-get_or}
+use Rattle.std.proofs.lemmas.Option.{same_Some, none-some, slice_get_past, slice_get_cases}
 use lib.Pointwise.{pointwise}
 use Rattle.prod_model.specs.declared.model.Model.{Model}
 use Rattle.prod_model.specs.declared.model.PortAt.{PortAt}
@@ -15,7 +15,8 @@ use Rattle.config_value.specs.Shaped.{is_shaped, has_root, has_size, has_value, 
 use Rattle.config_value.specs.Numbered.{is_in_turn, is_numbered}
 use Rattle.config_value.specs.Satisfies.{follows_rules, satisfies}
 use Rattle.config_value.specs.Spelled.{is_spelled, is_spelled_value, is_spelled_links}
-use Rattle.base_laws.proofs.Ranges.{slice_get_range_with_len, range_with_len_lt}
+use Rattle.base_laws.proofs.Ranges.{slice_get_range_with_len, range_with_len_lt, range_with_len_from, at_enumerate, enumerate_at}
+use Rattle.base_laws.proofs.Elements.{contained_at, at_contained}
 use Rattle.base_laws.proofs.Tests.{list_all_at, list_all_from, pointwise_at, pointwise_from, option_map_or_at, option_map_or_from}
 use Rattle.config_value.proofs.Places.{is_between_at, is_between_from}
 use Rattle.config_value.proofs.ShapedParts.{PassesEach, passes_each, is_shaped_from}
@@ -35,28 +36,6 @@ passes_unless false fails = absurd (fails refl)
 clash : (b : Bool) → b ≡ true → b ≡ false → ⊥
 clash b holds fails = true≢false (sym holds ∙ fails)
 
--- the numbers of a range begin with its first
-range_least : (a n k j : ℕ) → slice_get (range_with_len a n) k ≡ Some j → a ≤ j
-range_least a zero k j at = absurd (none-some j at)
-range_least a (suc n) zero j at = omega (arith, same_Some a j at)
-range_least a (suc n) (suc k) j at = omega (arith, range_least (a + 1) n k j at)
-
--- what stands beside its place in a list
-enumerate_first : (n : ℕ) (c : List Instance) (k : ℕ) (e : ℕ × Instance) → slice_get (enumerate_from n c) k ≡ Some e → e.0 ≡ n + k
-enumerate_first n [] k e at = absurd (none-some e at)
-enumerate_first n (x ∷ c) zero e at = ap (λ p. p.0) (sym (same_Some (n, x) e at)) ∙ omega arith
-enumerate_first n (x ∷ c) (suc k) e at = enumerate_first (n + 1) c k e at ∙ omega arith
-
-enumerate_second : (n : ℕ) (c : List Instance) (k : ℕ) (e : ℕ × Instance) → slice_get (enumerate_from n c) k ≡ Some e → slice_get c k ≡ Some e.1
-enumerate_second n [] k e at = absurd (none-some e at)
-enumerate_second n (x ∷ c) zero e at = ap (λ p. Some p.1) (same_Some (n, x) e at)
-enumerate_second n (x ∷ c) (suc k) e at = enumerate_second (n + 1) c k e at
-
-enumerate_at : (n : ℕ) (c : List Instance) (k : ℕ) (x : Instance) → slice_get c k ≡ Some x → slice_get (enumerate_from n c) k ≡ Some (n + k, x)
-enumerate_at n [] k x at = absurd (none-some x at)
-enumerate_at n (y ∷ c) zero x at = let e : n + 0 ≡ n = omega arith in rw e (ap (λ z. Some (n, z)) (same_Some y x at))
-enumerate_at n (y ∷ c) (suc k) x at = let e : n + 1 + k ≡ n + suc k = omega arith in enumerate_at (n + 1) c k x at ∙ ap (λ j. Some (j, x)) e
-
 unless_parts : (a b : Bool) → (not a || b) ≡ false → (a ≡ true) × (b ≡ false)
 unless_parts a b is = (grind arith, grind arith)
 
@@ -69,9 +48,6 @@ unfolding is_spelled
 spelled_links m c i k x links spelled at there =
     let both = list_all_at (λ y. pointwise (is_spelled_value m) (attributes_at m y.kind) y.values && list_all is_spelled_links y.links) c (and_parts _ _ spelled).1 i x at in
     (and_parts _ _ (list_all_at is_spelled_links x.links (and_parts (pointwise (is_spelled_value m) (attributes_at m x.kind) x.values) (list_all is_spelled_links x.links) both).1 k links there)).0
-
-at_contained : (xs : List ℕ) (x : ℕ) (among : Contains xs x) → slice_get xs among.0 ≡ Some x
-at_contained xs x among = slice_get-get_or xs among.0 x among.1 ∙ ap Some among.2
 
 -- ---- without breaks
 
@@ -102,7 +78,7 @@ module _ (m : Model) (c : List Instance) (spelled : IsTrue (is_spelled m c)) whe
     kept_target : (i k h j : ℕ) (x : Instance) (p : PortAt) (links : List ℕ) → slice_get c i ≡ Some x → slice_get (ports_at m x.kind) k ≡ Some p → slice_get x.links k ≡ Some links
         → slice_get links h ≡ Some j → is_under m c p.target j ≡ true
     kept_target i k h j x p links stands port there link =
-        let among : Contains links j = (h, slice_get_within links h j link, get_or_from_slice_get links h j j link) in
+        let among : Contains links j = contained_at links h j link in
         elim (slice_get_cases c j).1 [
           | inl w ↦
               option_map_or_from (under m p.target) (slice_get c j) w.0 w.2 (passes_unless (under m p.target w.0) (λ off.
@@ -155,7 +131,7 @@ module _ (m : Model) (c : List Instance) (spelled : IsTrue (is_spelled m c)) whe
     kept_numbers : IsTrue (is_numbered c)
     unfolding is_numbered
     kept_numbers = list_all_from (is_in_turn c) (range_with_len 1 (length c - 1)) (λ k j at.
-        let high = range_least 1 (length c - 1) k j at in
+        let high = range_with_len_from 1 (length c - 1) k j at in
         let low = range_with_len_lt 1 (length c - 1) k j at in
         passes_unless (is_in_turn c j) (λ out. never (record { code = 8; instance = j; item = 0 }) (omega arith) (misnumbered refl refl high (omega arith) out)))
 
@@ -163,8 +139,8 @@ module _ (m : Model) (c : List Instance) (spelled : IsTrue (is_spelled m c)) whe
   unfolding follows_rules
   kept_rules none = list_all_from (λ r. list_all (λ e. not (under m r.kind e.1) || is_true_at m c e.0 r.holds) (enumerate_from 0 c)) m.rules (λ k r rule.
       list_all_from (λ e. not (under m r.kind e.1) || is_true_at m c e.0 r.holds) (enumerate_from 0 c) (λ i e at.
-      let first : e.0 ≡ i = enumerate_first 0 c i e at ∙ omega arith in
-      let stands : slice_get c e.0 ≡ Some e.1 = ap (slice_get c) first ∙ enumerate_second 0 c i e at in
+      let first : e.0 ≡ i = (enumerate_at 0 c i e at).0 ∙ omega arith in
+      let stands : slice_get c e.0 ≡ Some e.1 = ap (slice_get c) first ∙ (enumerate_at 0 c i e at).1 in
       passes_unless (not (under m r.kind e.1) || is_true_at m c e.0 r.holds) (λ wrong.
       let parts = unless_parts (under m r.kind e.1) (is_true_at m c e.0 r.holds) wrong in
       let b : Break = record { code = 10; instance = e.0; item = k } in
@@ -225,7 +201,7 @@ module _ (m : Model) (c : List Instance) (b : Break) where
           let each = list_all_at (λ s. list_all (λ e. not (under m s.kind e.1) || is_true_at m c e.0 s.holds) (enumerate_from 0 c)) m.rules rules b.item r rule in
           let place : 0 + b.instance ≡ b.instance = omega arith in
           let here = list_all_at (λ (e : ℕ × Instance). not (under m r.kind e.1) || is_true_at m c e.0 r.holds) (enumerate_from 0 c) each b.instance (b.instance, x)
-          (enumerate_at 0 c b.instance x stands ∙ ap (λ i. Some (i, x)) place) in
+          (at_enumerate 0 c b.instance x stands ∙ ap (λ i. Some (i, x)) place) in
           clash (is_true_at m c b.instance r.holds) (unless_second (under m r.kind x) (is_true_at m c b.instance r.holds) here kind) wrong
 
 -- what satisfies the model breaks no test
