@@ -1,8 +1,9 @@
 //! What numbers are at instances.
 ghost use Rattle.std.specs.Prelude.{◌≡◌, map, IsTrue};
 ghost use Rattle.prod_model.specs.Valid.{IsValid};
+ghost use Rattle.prod_model.specs.ExprBounds.{sum_of};
 ghost use Rattle.config_value.specs.Shaped.{is_shaped};
-ghost use Rattle.config_value.specs.Value.{number_at as number_at_of, sum_of};
+ghost use Rattle.config_value.specs.Value.{number_at as number_at_of};
 ghost use Rattle.answer_check.specs.steps.Evaluable.{EachHasBounds};
 ghost use Rattle.answer_check.specs.Faultless.{HasBoundsAt};
 

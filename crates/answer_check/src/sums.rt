@@ -2,7 +2,8 @@
 //! of 64 bits can leave.
 ghost use Rattle.std.specs.Prelude.{◌≡◌, ◌≤◌, length, map, pos, if◌then◌else◌};
 ghost use Rattle.std.specs.List.{count_by, filter};
-ghost use Rattle.config_value.specs.Value.{is_under, under, value_of as value_of_at, value_at_instance as value_at_instance_of, sum_of};
+ghost use Rattle.prod_model.specs.ExprBounds.{sum_of};
+ghost use Rattle.config_value.specs.Value.{is_under, under, value_of as value_of_at, value_at_instance as value_at_instance_of};
 
 use crate::instances::{count_under, is_instance_under, value_at_instance, value_of};
 use crate::types::is_under as is_kind_under;

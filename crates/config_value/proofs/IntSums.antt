@@ -5,7 +5,7 @@ use Rattle.std.specs.List.{fold, filter}
 use Rattle.std.proofs.lemmas.Int.{ints}
 use Rattle.std.proofs.lemmas.Option.{slice_get-get_or}
 use Rattle.std.proofs.lemmas.List.Folds.{fold-map}
-use Rattle.config_value.specs.Value.{sum_of}
+use Rattle.prod_model.specs.ExprBounds.{sum_of}
 use Rattle.base_laws.proofs.Steps.{fold_next}
 
 module _ {X : Type 0} (f : X → ℤ) where

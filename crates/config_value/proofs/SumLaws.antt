@@ -6,7 +6,7 @@ use Rattle.std.specs.List.{fold}
 use Rattle.std.proofs.Math.IntN.{suc_ℤ-*ℤ, pred_ℤ-*ℤ, pos-*ℤ-pos, pos-*ℤ-negsuc, zero-*ℤ}
 use Rattle.std.proofs.Math.Nat.{mul-le-mul_right}
 use Rattle.std.proofs.lemmas.Int.{ints, clamps}
-use Rattle.config_value.specs.Value.{sum_of}
+use Rattle.prod_model.specs.ExprBounds.{sum_of}
 use Rattle.base_laws.specs.Places.{IsAt}
 
 -- the number is the low one, the high one or between them

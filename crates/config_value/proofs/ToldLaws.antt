@@ -11,11 +11,11 @@ use Rattle.prod_model.specs.declared.model.Domain.{Domain}
 use Rattle.prod_model.specs.declared.model.Domain.TheVariants.{Range, Words}
 use Rattle.prod_model.specs.declared.expr_bounds.Bounds.{Bounds}
 use Rattle.prod_model.specs.declared.expr_bounds.Bounds.TheVariants as bounds
-use Rattle.prod_model.specs.ExprBounds.{bounded, sum_of_some, difference, multiple, comparison, truth_of, of_range}
+use Rattle.prod_model.specs.ExprBounds.{bounded, sum_of, sum_of_some, difference, multiple, comparison, truth_of, of_range}
 use Rattle.prod_model.specs.steps.ExprBounds.{sum_onto}
 use Rattle.config_value.specs.declared.found.Found.{Found}
 use Rattle.config_value.specs.declared.found.Found.TheVariants as found
-use Rattle.config_value.specs.Value.{as_number, sum_of}
+use Rattle.config_value.specs.Value.{as_number}
 use Rattle.base_laws.specs.Places.{IsAt}
 use Rattle.config_value.specs.BoundsHold.{IsWithinBounds}
 use Rattle.config_value.proofs.HeldLaws.{IsInRange}

@@ -12,10 +12,11 @@ use Rattle.prod_model.specs.declared.expr.Expr.TheViews.{roll-Expr}
 use Rattle.prod_model.specs.declared.expr.Expr.TheFolds.{fold-roll-Expr}
 use Rattle.prod_model.specs.declared.expr.Relation.{Relation}
 use Rattle.base_laws.proofs.Tests.{list_any_map}
+use Rattle.prod_model.specs.ExprBounds.{sum_of}
 use Rattle.config_value.specs.declared.configuration.Instance.{Instance}
 use Rattle.config_value.specs.declared.found.Found.{Found}
 use Rattle.config_value.specs.declared.found.Found.TheVariants.{Number as number, Truth as truth}
-use Rattle.config_value.specs.Value.{value_at, layer_value, value_at_instance, links_at_instance, value_of, under, is_under, sum_of, as_number, as_truth, holds}
+use Rattle.config_value.specs.Value.{value_at, layer_value, value_at_instance, links_at_instance, value_of, under, is_under, as_number, as_truth, holds}
 
 module _ (m : Model) (c : List Instance) (i : ℕ) where
   pub value_at_Num : (n : ℤ) → value_at m c i (roll-Expr (Num n)) ≡ number n

@@ -1,15 +1,16 @@
 -- What an expression is at an instance of a configuration. It is meant for expressions without
 -- fault and shaped configurations.
-use Rattle.std.specs.Prelude.{ℕ, ℤ, pos, ◌+ℤ◌, ◌-ℤ◌, ◌*ℤ◌, int_lt, int_le, Bool, false, not, ◌||◌, ◌==◌, List, [], map, length, slice_get, slice_index_or}
+use Rattle.std.specs.Prelude.{ℕ, ℤ, pos, ◌-ℤ◌, ◌*ℤ◌, int_lt, int_le, Bool, false, not, ◌||◌, ◌==◌, List, [], map, length, slice_get, slice_index_or}
 use Rattle.std.specs.Option.{option_map_or}
 use Rattle.std.specs.Ordering.{int_eq}
-use Rattle.std.specs.List.{list_any, list_all, filter, fold, count_by, position}
+use Rattle.std.specs.List.{list_any, list_all, filter, count_by, position}
 use Rattle.prod_model.specs.declared.expr.Expr.{Expr}
 use Rattle.prod_model.specs.declared.expr.Expr.TheOpen.{Expr-F, Num, Attr, Count, CountOf, Sum, Total, Number, Add, Sub, Times, Cmp, Is, Kind, And, Or, Not, If, All, Any}
 use Rattle.prod_model.specs.declared.expr.Expr.TheFolds.{fold-Expr}
 use Rattle.prod_model.specs.declared.expr.Relation.{Relation}
 use Rattle.prod_model.specs.declared.expr.Relation.TheVariants.{Less, AtMost, Equal, Differs, AtLeast, Greater}
 use Rattle.prod_model.specs.declared.model.Model.{Model}
+use Rattle.prod_model.specs.ExprBounds.{sum_of}
 use Rattle.prod_model.specs.Forest.{is_a}
 use Rattle.prod_model.specs.Taxonomy.{attributes_at, ports_at}
 use Rattle.config_value.specs.declared.configuration.Instance.{Instance}
@@ -71,10 +72,6 @@ holds Equal a b = int_eq a b
 holds Differs a b = not (int_eq a b)
 holds AtLeast a b = int_le b a
 holds Greater a b = int_lt b a
-
--- the sum of whole numbers
-abbrev pub sum_of : List ℤ → ℤ
-sum_of ns = fold ◌+ℤ◌ (pos 0) ns
 
 -- what a form is at instance i, from what its arguments are at each instance
 abbrev pub layer_value : Model → List Instance → Expr-F (ℕ → Found) → ℕ → Found

@@ -7,10 +7,11 @@ use Rattle.prod_model.specs.declared.model.Model.{Model}
 use Rattle.prod_model.specs.declared.expr.Expr.{Expr}
 use Rattle.prod_model.specs.declared.expr.Expr.TheOpen.{Expr-F, Num, Attr, Count, CountOf, Sum, Total, Number, Add, Sub, Times, Cmp, Is, Kind, And, Or, Not, If, All, Any}
 use Rattle.prod_model.specs.Limits.{farthest_bound}
+use Rattle.prod_model.specs.ExprBounds.{sum_of}
 use Rattle.config_value.specs.declared.configuration.Instance.{Instance}
 use Rattle.config_value.specs.declared.found.Found.{Found}
 use Rattle.config_value.specs.declared.found.Found.TheVariants.{Number as number, Truth as truth}
-use Rattle.config_value.specs.Value.{value_of, value_at_instance, links_at_instance, under, is_under, sum_of, number_at, is_true_at, holds}
+use Rattle.config_value.specs.Value.{value_of, value_at_instance, links_at_instance, under, is_under, number_at, is_true_at, holds}
 use Rattle.answer_check.specs.Faultless.{HasBoundsAt}
 
 abbrev pub form_value : Model → List Instance → ℕ → Expr-F Expr → Found

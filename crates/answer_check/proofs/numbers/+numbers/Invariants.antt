@@ -1,5 +1,6 @@
 use Rattle.std.proofs.Common.{◌≡◌, ◌*◌, take, map, pos, neg_ℤ, ◌≤ℤ◌}
-use Rattle.config_value.specs.Value.{sum_of, number_at}
+use Rattle.prod_model.specs.ExprBounds.{sum_of}
+use Rattle.config_value.specs.Value.{number_at}
 use Rattle.answer_check.proofs.numbers.+numbers.Given as goal
 
 -- the sum so far, and how far it can be from 0

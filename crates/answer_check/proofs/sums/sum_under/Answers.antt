@@ -1,8 +1,9 @@
 use Rattle.std.proofs.Common.{◌≤◌, ◌∙◌, ap, sym, arith, cond, pos, map, length}
 use Rattle.std.proofs.lemmas.Int.{ints}
 use Rattle.std.proofs.lemmas.List.{take_all}
+use Rattle.prod_model.specs.ExprBounds.{sum_of}
 use Rattle.config_value.specs.declared.configuration.Instance.{Instance}
-use Rattle.config_value.specs.Value.{value_of, under, sum_of}
+use Rattle.config_value.specs.Value.{value_of, under}
 use Rattle.config_value.proofs.IntSums.{sum_next, sum_filtered}
 use Rattle.answer_check.proofs.sums.sum_under.Goals as goal
 

@@ -1,5 +1,6 @@
 use Rattle.std.proofs.Common.{◌≡◌, ◌*◌, take, map, pos, neg_ℤ, ◌≤ℤ◌, cond}
-use Rattle.config_value.specs.Value.{sum_of, value_of, under}
+use Rattle.prod_model.specs.ExprBounds.{sum_of}
+use Rattle.config_value.specs.Value.{value_of, under}
 use Rattle.answer_check.proofs.sums.sum_under.Given as goal
 
 -- the sum so far, and how far it can be from 0
