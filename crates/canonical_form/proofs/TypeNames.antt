@@ -3,7 +3,6 @@ use Rattle.std.proofs.Common.{◌≡◌, ℕ, Bool, true, ◌&&◌, List, [], �
 use Rattle.std.specs.Prelude.{slice_get}
 use Rattle.std.specs.Option.{option_map_or}
 use Rattle.std.specs.List.{list_all, flat_map}
-use Rattle.std.proofs.lemmas.List.Folds.{list_any-append}
 use Rattle.std.proofs.lemmas.Simd.{map-map}
 use Rattle.prod_model.specs.declared.model.Model.{Model}
 use Rattle.prod_model.specs.declared.model.TypeDecl.{TypeDecl}
@@ -11,25 +10,18 @@ use Rattle.prod_model.specs.declared.model.Rule.{Rule}
 use Rattle.prod_model.specs.declared.model.AttrDecl.{AttrDecl}
 use Rattle.prod_model.specs.declared.model.PortDecl.{PortDecl}
 use Rattle.prod_model.specs.declared.model.AttrAt.{AttrAt}
-use Rattle.prod_model.specs.Names.{same_text, is_distinct}
+use Rattle.prod_model.specs.Names.{is_distinct}
 use Rattle.prod_model.specs.Forest.{line}
 use Rattle.prod_model.specs.Taxonomy.{Named, new_declarations, all_new_declarations, attributes_of, ports_of, attributes_at, words_of, first_words, made_attribute, made_port}
 use Rattle.prod_model.specs.Valid.{IsValid, has_distinct_names}
 use Rattle.canonical_form.specs.steps.FirstDeclared.{first_declarations}
 use Rattle.prod_model.proofs.ForestLines.{no_cycle, line_IsLine}
+use Rattle.prod_model.proofs.NameLaws.{distinct_front, distinct_back}
 use Rattle.canonical_form.proofs.Firsts.{HasDistinct, firsts_of_line}
 use Rattle.prod_model.proofs.EntryLaws.{names_entries_of}
 use Rattle.prod_model.proofs.IdLaws.{places_entries_of}
 
 -- ---- no name twice
-
-distinct_front : (xs ys : List (List ℕ)) → is_distinct (xs ++ ys) ≡ true → is_distinct xs ≡ true
-distinct_front [] ys distinct = refl
-distinct_front (x ∷ xs) ys distinct = let rest = distinct_front xs ys in let apart = list_any-append (same_text x) xs ys in grind (arith)
-
-distinct_back : (xs ys : List (List ℕ)) → is_distinct (xs ++ ys) ≡ true → is_distinct ys ≡ true
-distinct_back [] ys distinct = distinct
-distinct_back (x ∷ xs) ys distinct = distinct_back xs ys (grind (arith))
 
 both_distinct : (types : List TypeDecl) (more : TypeDecl → Bool)
     → list_all (λ d. is_distinct (map (λ a. a.name) d.attributes ++ map (λ p. p.name) d.ports) && more d) types ≡ true

@@ -1,10 +1,13 @@
 -- Names that are the same, and names that are looked up in a list.
-use Rattle.std.proofs.Common.{◌≡◌, ℕ, true, List, [], ◌∷◌, map, refl, arith}
+use Rattle.std.proofs.Common.{◌≡◌, ℕ, true, List, [], ◌∷◌, ◌++◌, map, refl, arith}
+use Rattle.std.specs.Prelude.{IsTrue}
 use Rattle.std.specs.Borrow.{Bor}
 use Rattle.std.specs.List.{list_any, position}
 use Rattle.std.specs.Cmp.Lexicographic.{nat_list_eq_equiv}
 use Rattle.std.proofs.lemmas.Bool.Decides.{nat_tests}
-use Rattle.prod_model.specs.Names.{same_text}
+use Rattle.std.proofs.lemmas.Bool.{and_parts}
+use Rattle.std.proofs.lemmas.List.Folds.{list_any-append}
+use Rattle.prod_model.specs.Names.{same_text, is_distinct}
 use Rattle.base_laws.proofs.Tests.{list_any_map, position_map}
 
 -- a text is the same as itself
@@ -27,3 +30,13 @@ pub position_now : (name : List ℕ) (texts : List (Bor (List ℕ)))
 position_now name texts =
     position_map (λ t. t.now) (λ n. same_text n name) (λ t. same_text name t.now)
     (λ t. same_text_symm t.now name) texts
+
+-- of names of which none stands twice, none of the first stands twice
+pub distinct_front : (ns ks : List (List ℕ)) → IsTrue (is_distinct (ns ++ ks)) → IsTrue (is_distinct ns)
+distinct_front [] ks distinct = refl
+distinct_front (n ∷ ns) ks distinct = let rest = distinct_front ns ks in let apart = list_any-append (same_text n) ns ks in grind (arith)
+
+-- and the names after them
+pub distinct_back : (ns ks : List (List ℕ)) → IsTrue (is_distinct (ns ++ ks)) → IsTrue (is_distinct ks)
+distinct_back [] ks distinct = distinct
+distinct_back (n ∷ ns) ks distinct = distinct_back ns ks (and_parts _ _ distinct).1

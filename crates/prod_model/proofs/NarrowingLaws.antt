@@ -7,7 +7,6 @@ use Rattle.std.specs.Bool.{passes}
 use Rattle.std.specs.Int.Signed.{le_z_yes}
 use Rattle.std.proofs.lemmas.Bool.{false≢true, and_parts, and_from, false_from_ne_true}
 use Rattle.std.proofs.lemmas.Int.{ints}
-use Rattle.std.proofs.lemmas.List.Folds.{list_any-append}
 use Rattle.std.proofs.lemmas.Option.{same_Some, none-some}
 use Rattle.prod_model.specs.declared.model.Model.{Model}
 use Rattle.prod_model.specs.declared.model.TypeDecl.{TypeDecl}
@@ -24,7 +23,7 @@ use Rattle.prod_model.specs.Valid.{IsDeclared, inherited, has_narrowings, attrib
 use Rattle.prod_model.proofs.Inverses.{declared_at}
 use Rattle.base_laws.specs.Places.{IsAt}
 use Rattle.base_laws.proofs.Tests.{list_all_at, list_all_from, list_any_at, list_any_from}
-use Rattle.prod_model.proofs.NameLaws.{same_text_refl}
+use Rattle.prod_model.proofs.NameLaws.{same_text_refl, distinct_front, distinct_back}
 use Rattle.prod_model.proofs.ForestLines.{HasNoCycle, HasParent, no_cycle}
 use Rattle.prod_model.proofs.LineLaws.{along_lines, is_a_cases, is_a_trans}
 use Rattle.base_laws.proofs.Places.{HasEach, find_at, map_at, at_map, at_front}
@@ -181,16 +180,6 @@ module _ {D A : Type 0} (declared : TypeDecl → List D) (name_of : D → List �
           each at.0 d e at.1 (ap (λ n. find (λ x. same_text x.name n) before) named ∙ found)
 
 -- ---- attributes and ports
-
--- of names of which none stands twice, none of the first stands twice
-distinct_front : (ns ks : List (List ℕ)) → IsTrue (is_distinct (ns ++ ks)) → IsTrue (is_distinct ns)
-distinct_front [] ks distinct = refl
-distinct_front (n ∷ ns) ks distinct = let rest = distinct_front ns ks in let apart = list_any-append (same_text n) ns ks in grind (arith)
-
--- and the names after them
-distinct_back : (ns ks : List (List ℕ)) → IsTrue (is_distinct (ns ++ ks)) → IsTrue (is_distinct ks)
-distinct_back [] ks distinct = distinct
-distinct_back (n ∷ ns) ks distinct = distinct_back ns ks (and_parts _ _ distinct).1
 
 -- no declaration's name stands twice among a type's attributes, nor among its ports
 pub distinct_declarations : (m : Model) → IsDeclared m → (u : ℕ)
