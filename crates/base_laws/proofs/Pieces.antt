@@ -5,12 +5,7 @@ use Rattle.std.specs.List.{flat_map}
 use Rattle.std.proofs.lemmas.List.{length-append}
 use Rattle.std.proofs.lemmas.Option.{same_Some, none-some, slice_get_within}
 use Rattle.base_laws.specs.Places.{IsAt}
-use Rattle.base_laws.proofs.Places.{at_front}
-
--- what stands at a place of the second list stands behind the first one
-pub at_behind : {A : Type 0} (xs ys : List A) (k : ℕ) (y : A) → IsAt ys k y → IsAt (xs ++ ys) (length xs + k) y
-at_behind [] ys k y there = let e : 0 + k ≡ k = omega arith in rw e there
-at_behind (x ∷ xs) ys k y there = let e : suc (length xs) + k ≡ suc (length xs + k) = omega arith in rw e (at_behind xs ys k y there)
+use Rattle.base_laws.proofs.Places.{at_front, at_back}
 
 -- it stands in the first list, or behind it in the second
 abbrev pub StandsInEither : {A : Type 0} → List A → List A → ℕ → A → Type 0
@@ -49,7 +44,7 @@ module _ {X Y : Type 0} (f : X → List Y) where
       let e : 0 + k ≡ k = omega arith in
       rw e (at_front (f z) (flat_map f xs) k y (subst Has (sym (same_Some z x at)) there))
   piece_at (z ∷ xs) (suc i) k x y at there =
-      rw (joined_next z xs i k) (at_behind (f z) (flat_map f xs) (joined_place xs i k) y (piece_at xs i k x y at there))
+      rw (joined_next z xs i k) (at_back (f z) (flat_map f xs) (joined_place xs i k) y (piece_at xs i k x y at there))
 
   -- what stands in the whole stands in a piece
   pub at_piece : (xs : List X) (n : ℕ) (y : Y) → IsAt (flat_map f xs) n y → IsInPiece xs n y
