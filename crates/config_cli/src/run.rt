@@ -14,10 +14,8 @@ use crate::commands::configure_names;
 use crate::outcome::{Fetched, configured};
 use crate::status::Status;
 use cfg_io::{ReadError, Shelf, Sink, WriteError};
+use prod_model::limits::MOST_FILE_BYTES;
 use std::alloc::Global;
-
-/// The most bytes of a file.
-const MOST_BYTES: usize = 4_194_304;
 
 const USAGE: &str = "usage: config_cli configure MODEL ORDER [--workers W] \
     | check MODEL ORDER ANSWER | demo N [--workers W]\n";
@@ -52,7 +50,7 @@ fn fetch<S: Shelf>(shelf: &mut S, name: &str) -> Result<Fetched, Stop>
     ensures later { (n : List ℕ) → S.faults shelf.old n ≤ S.faults shelf.new n }
     ensures others { (n : List ℕ) → n ≢ name.now → S.faults shelf.new n ≡ S.faults shelf.old n }
 {
-    match shelf.read(name, MOST_BYTES) {
+    match shelf.read(name, MOST_FILE_BYTES) {
         Ok(bytes) => Ok(Fetched::Bytes(bytes)),
         Err(ReadError::TooLong) => Ok(Fetched::TooLong),
         Err(ReadError::Failed) => Err(Stop::Failed),

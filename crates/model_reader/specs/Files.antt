@@ -7,6 +7,7 @@ use Rattle.std.specs.Str.{IsUtf8}
 use Rattle.serde_json.specs.Data.{Data, Items, no_items, item, Members, no_members, member}
 use Rattle.serde_json.specs.Read.{read}
 use Rattle.serde_json.specs.Find.{get, as_array, as_object, as_str, as_number, as_i64}
+use Rattle.prod_model.specs.Limits.{most_file_bytes}
 use Rattle.prod_model.specs.Names.{same_text}
 use Rattle.model_reader.specs.declared.fault.FaultCode.{FaultCode}
 use Rattle.model_reader.specs.declared.fault.FaultCode.TheVariants.{TooLong, NoJson, Unsupported}
@@ -18,20 +19,16 @@ pub record IsValue (bytes : List ℕ) (d : Data) : Type 0 where
   pub text : IsUtf8 bytes
   pub value : read bytes ≡ Some d
 
--- the most bytes of a file
-abbrev pub most_bytes : ℕ
-most_bytes = 4194304
-
 -- the bytes are a file of this, where a value is read so
 pub record IsFileOf {A : Type 0} (reading : Data → Option A) (bytes : List ℕ) (a : A) : Type 0 where
-  pub short : length bytes ≤ most_bytes
+  pub short : length bytes ≤ most_file_bytes
   pub data_ : Data
   pub value : IsValue bytes data_
   pub stands_for : reading data_ ≡ Some a
 
 -- the bytes are a file of JSON whose value is read as nothing
 pub record IsNoFileOf {A : Type 0} (reading : Data → Option A) (bytes : List ℕ) : Type 0 where
-  pub short : length bytes ≤ most_bytes
+  pub short : length bytes ≤ most_file_bytes
   pub data_ : Data
   pub value : IsValue bytes data_
   pub stands_for_none : reading data_ ≡ None
@@ -39,8 +36,8 @@ pub record IsNoFileOf {A : Type 0} (reading : Data → Option A) (bytes : List �
 -- The fault of the whole file: it is too long, else no JSON, else its value is read as nothing.
 pub data IsFaultOf {A : Type 0} (reading : Data → Option A) (bytes : List ℕ) (code : FaultCode)
     : Type 0 where
-  too_long : code ≡ TooLong → most_bytes < length bytes → IsFaultOf reading bytes code
-  no_value : code ≡ NoJson → length bytes ≤ most_bytes → ((d : Data) → ¬ IsValue bytes d)
+  too_long : code ≡ TooLong → most_file_bytes < length bytes → IsFaultOf reading bytes code
+  no_value : code ≡ NoJson → length bytes ≤ most_file_bytes → ((d : Data) → ¬ IsValue bytes d)
       → IsFaultOf reading bytes code
   unsupported : code ≡ Unsupported → IsNoFileOf reading bytes → IsFaultOf reading bytes code
 

@@ -9,11 +9,9 @@ ghost use Rattle.model_reader.specs.Refused.{RefusesFile, whole_file};
 
 use crate::fault::{FaultCode, Refusal, too_long, whole_file};
 use crate::unread::Unread;
+use prod_model::limits::MOST_FILE_BYTES;
 use serde_json::Value;
 use std::alloc::{AllocError, Global};
-
-/// The most bytes of a file.
-const MOST_BYTES: usize = 4_194_304;
 
 /// The value of a file.
 ///
@@ -23,7 +21,7 @@ pub fn value_of(alloc: Global, bytes: &[u8]) -> Result<Value, Refusal>
     ensures value { IfOk result (λ v. IsFileOf Some bytes.now (view v)) }
     ensures fault { IfErr result (λ e. RefusesFile Some bytes.now e) }
 {
-    if bytes.len() > MOST_BYTES {
+    if bytes.len() > MOST_FILE_BYTES {
         return Err(too_long(alloc));
     }
     match Value::from_slice(alloc, bytes) {

@@ -1,6 +1,10 @@
 -- The limits of a model and an order.
 use Rattle.std.specs.Prelude.{ℕ, ℤ, pos, neg_ℤ, int_le, Bool, ◌&&◌, nat_le}
 
+-- how many bytes a file has at most
+abbrev pub most_file_bytes : ℕ
+most_file_bytes = 4194304
+
 -- how many types a model has at most
 abbrev pub most_types : ℕ
 most_types = 128

@@ -1,5 +1,8 @@
 //! The limits of a model and an order, for every test of a length or a number.
 
+/// How many bytes a file has at most.
+pub const MOST_FILE_BYTES: usize = 4_194_304;
+
 /// How many types a model has at most.
 pub const MOST_TYPES: usize = 128;
 

@@ -1,7 +1,7 @@
 -- What a read that stops at the limit shows of a file.
 use Rattle.std.specs.Prelude.{◌≡◌, ℕ, ◌<◌, List, length, Some}
 use Rattle.cfg_io.specs.Shelves.{file}
-use Rattle.model_reader.specs.Files.{most_bytes}
+use Rattle.prod_model.specs.Limits.{most_file_bytes}
 use Rattle.model_reader.specs.declared.fault.Refusal.{Refusal}
 use Rattle.model_reader.specs.declared.fault.Refusal.TheVariants.{Fault, Memory}
 use Rattle.config_cli.specs.Texts.{refused_text}
@@ -13,7 +13,7 @@ use Rattle.config_cli.specs.declared.status.Status.TheVariants.{Refused}
 -- the bytes that were read are the file's; or it has more than a file may have
 abbrev pub IsFetchOf : List ℕ → Fetched → Type 0
 IsFetchOf file (Bytes v) = v.items ≡ file
-IsFetchOf file TooLong = most_bytes < length file
+IsFetchOf file TooLong = most_file_bytes < length file
 
 -- what was read is of the file of that name
 abbrev pub IsFetchAt : List (List ℕ × List ℕ) → List ℕ → Fetched → Type 0
