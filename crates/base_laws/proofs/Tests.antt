@@ -3,7 +3,7 @@ use Rattle.std.proofs.Common.{◌≡◌, ℕ, zero, suc, ◌||◌, List, [], ◌
 use Rattle.std.proofs.lemmas.Bool.{and_parts, and_from, or_cases, or_left, or_right}
 use Rattle.std.proofs.lemmas.Option.{same_Some, none-some}
 use Rattle.std.proofs.lemmas.List.{length-map}
-use Rattle.std.specs.Prelude.{Bool, false, IsTrue}
+use Rattle.std.specs.Prelude.{Bool, true, false, ◌&&◌, IsTrue}
 use Rattle.std.specs.declared.option.Option.{Option}
 use Rattle.std.specs.Option.{option_map_or}
 use Rattle.std.specs.List.{list_all, list_any, position, position_or_len}
@@ -44,6 +44,28 @@ module _ {A : Type 0} (test : A → Bool) where
   -- a test that what stands at a place passes is passed
   pub option_map_or_from : (o : Option A) (x : A) → o ≡ Some x → IsTrue (test x) → IsTrue (option_map_or test o false)
   option_map_or_from o x e h = ap (λ p. option_map_or test p false) e ∙ h
+
+module _ {A : Type 0} where
+  -- a list that passes a test passes each test that follows from it
+  pub list_all_by : (p q : A → Bool) → ((a : A) → IsTrue (p a) → IsTrue (q a)) → (xs : List A) → IsTrue (list_all p xs) → IsTrue (list_all q xs)
+  list_all_by p q imply [] h = refl
+  list_all_by p q imply (a ∷ xs) h =
+      let both = and_parts (p a) (list_all p xs) h in
+      and_from (q a) (list_all q xs) (imply a both.0) (list_all_by p q imply xs both.1)
+
+  -- a list that passes two tests passes both at once
+  pub list_all_both : (p q : A → Bool) (xs : List A) → IsTrue (list_all p xs) → IsTrue (list_all q xs) → IsTrue (list_all (λ a. p a && q a) xs)
+  list_all_both p q [] g h = refl
+  list_all_both p q (a ∷ xs) g h =
+      let first = and_parts (p a) (list_all p xs) g in
+      let second = and_parts (q a) (list_all q xs) h in
+      and_from (p a && q a) (list_all (λ b. p b && q b) xs) (and_from (p a) (q a) first.0 second.0)
+      (list_all_both p q xs first.1 second.1)
+
+  -- every list passes the test that all pass
+  pub list_all_true : (xs : List A) → IsTrue (list_all (λ a. true) xs)
+  list_all_true [] = refl
+  list_all_true (a ∷ xs) = list_all_true xs
 
 module _ {A B : Type 0} (test : A → B → Bool) where
   -- what passes for two lists passes at each place of both

@@ -7,6 +7,7 @@ use Rattle.std.proofs.lemmas.Option.{none-some, same_Some}
 use Rattle.std.proofs.lemmas.Bool.{and_parts, and_from}
 use Rattle.serde_json.specs.Data.{Data}
 use Rattle.serde_json.specs.Find.{get}
+use Rattle.base_laws.proofs.Tests.{list_all_by}
 use Rattle.prod_model.specs.declared.model.Model.{Model}
 use Rattle.prod_model.specs.declared.model.Order.{Order}
 use Rattle.prod_model.specs.declared.model.Criterion.{Criterion}
@@ -20,7 +21,7 @@ use Rattle.prod_model.specs.Valid.{IsValid, IsValidOrder}
 use Rattle.model_reader.specs.Plain.{is_plain, is_plain_side}
 use Rattle.model_reader.specs.Files.{◌>>=◌, has_only, text_at, list_at, all_of}
 use Rattle.model_reader.specs.PlainFile.{plain_side}
-use Rattle.model_reader.proofs.StepLaws.{provided_test, provided_value, mapped, found_then, all_of_pass, list_all_by}
+use Rattle.model_reader.proofs.StepLaws.{provided_test, provided_value, mapped, found_then, all_of_pass}
 use Rattle.model_reader.proofs.SideLaws.{IsSide, side}
 use Rattle.model_reader.proofs.PlainLaws.{attributes_at_plain, sound_attributes, root_is_first}
 use Rattle.config_cli.specs.PlainOrder.{plain_aim, plain_criterion, plain_order, attributes_declared}

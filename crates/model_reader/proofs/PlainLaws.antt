@@ -4,6 +4,7 @@ use Rattle.std.proofs.lemmas.Bool.Decides.{nat_tests}
 use Rattle.std.specs.Prelude.{Option, Some, None, ◌&&◌, ◌==◌, nat_le, nat_lt, is_none}
 use Rattle.std.specs.List.{list_all}
 use Rattle.std.proofs.lemmas.Bool.{and_parts, false≢true}
+use Rattle.base_laws.proofs.Tests.{list_all_both}
 use Rattle.prod_model.specs.declared.model.Model.{Model}
 use Rattle.prod_model.specs.declared.model.TypeDecl.{TypeDecl}
 use Rattle.prod_model.specs.declared.model.AttrDecl.{AttrDecl}
@@ -18,7 +19,6 @@ use Rattle.prod_model.specs.Taxonomy.{attributes_at, ports_of, ports_at, tables_
 use Rattle.prod_model.specs.Valid.{IsValid, has_room, has_ends, is_pair, has_distinct_names, has_numbers_in_limits, has_known_types}
 use Rattle.model_reader.specs.Plain.{is_range, is_plain, attributes_declared, is_plain_type, has_one}
 use Rattle.model_reader.specs.steps.PlainTable.{row_from}
-use Rattle.model_reader.proofs.StepLaws.{list_all_both}
 use Rattle.model_reader.proofs.RowLaws.{length_row_from, attributes_of_alone}
 use Rattle.model_reader.proofs.SideLaws.{is_sound}
 use Rattle.model_reader.proofs.PlainParts.{type_of}

@@ -6,6 +6,7 @@ use Rattle.std.specs.List.{list_all}
 use Rattle.std.proofs.lemmas.Bool.{and_parts}
 use Rattle.serde_json.specs.Data.{Data}
 use Rattle.serde_json.specs.Find.{get}
+use Rattle.base_laws.proofs.Tests.{list_all_by}
 use Rattle.prod_model.specs.declared.model.Model.{Model}
 use Rattle.prod_model.specs.declared.model.TypeDecl.{TypeDecl}
 use Rattle.prod_model.specs.declared.model.AttrDecl.{AttrDecl}
@@ -17,7 +18,7 @@ use Rattle.prod_model.specs.Taxonomy.{ports_of, attributes_at, tables_of}
 use Rattle.model_reader.specs.steps.PlainTable.{row_from}
 use Rattle.model_reader.specs.Files.{◌>>=◌, has_only, text_at, whole_number, list_of, list_at, one_of}
 use Rattle.model_reader.specs.PlainFile.{plain_type, plain_rules, instances_of, plain_model}
-use Rattle.model_reader.proofs.StepLaws.{provided_test, provided_value, found_then, list_all_by}
+use Rattle.model_reader.proofs.StepLaws.{provided_test, provided_value, found_then}
 use Rattle.model_reader.proofs.SideLaws.{is_sound}
 use Rattle.model_reader.proofs.RowLaws.{attributes_of_alone}
 use Rattle.model_reader.proofs.PlainParts.{is_right, type_of, ArePlainParts, plain_type_of, HasPlainRules, plain_rules_of}

@@ -5,6 +5,7 @@ use Rattle.std.specs.Prelude.{Some, ◌&&◌, nat_le}
 use Rattle.std.specs.List.{list_all}
 use Rattle.std.proofs.lemmas.Bool.{and_parts, and_from, false≢true}
 use Rattle.serde_json.specs.Data.{Data}
+use Rattle.base_laws.proofs.Tests.{list_all_by, list_all_true}
 use Rattle.prod_model.specs.declared.model.Model.{Model}
 use Rattle.prod_model.specs.declared.model.AttrDecl.{AttrDecl}
 use Rattle.prod_model.specs.declared.model.Rule.{Rule}
@@ -20,7 +21,6 @@ use Rattle.prod_model.specs.ExprBounds.{is_truth_at}
 use Rattle.prod_model.specs.Valid.{IsValid, has_few_words, has_ends, has_short_lists, has_formed_names, has_distinct_names, has_numbers_in_limits, has_known_parents_and_targets, has_known_types, has_narrowings, has_room, has_one_bound_each, has_faultless_rules}
 use Rattle.model_reader.specs.Plain.{is_range, is_plain, is_plain_comparison}
 use Rattle.model_reader.specs.PlainFile.{plain_model}
-use Rattle.model_reader.proofs.StepLaws.{list_all_by, list_all_true}
 use Rattle.model_reader.proofs.SideLaws.{is_sound}
 use Rattle.model_reader.proofs.RowLaws.{length_row_from}
 use Rattle.model_reader.proofs.PlainParts.{is_right, is_right_rule, ArePlainParts, HasPlainRules}

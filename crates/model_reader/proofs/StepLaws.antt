@@ -1,10 +1,10 @@
 -- Taking apart what was read in steps.
 use Rattle.std.proofs.Common.{◌≡◌, Bool, true, false, List, [], ◌∷◌, refl, sym, ap, ◌∙◌}
-use Rattle.std.specs.Prelude.{Option, Some, None, ◌&&◌, unwrap_or}
+use Rattle.std.specs.Prelude.{Option, Some, None, unwrap_or}
 use Rattle.std.specs.Option.{option_map}
 use Rattle.std.specs.List.{list_all}
 use Rattle.std.proofs.lemmas.Option.{none-some, same_Some}
-use Rattle.std.proofs.lemmas.Bool.{and_parts, and_from}
+use Rattle.std.proofs.lemmas.Bool.{and_from}
 use Rattle.serde_json.specs.Data.{Data}
 use Rattle.model_reader.specs.Files.{◌>>=◌, provided, all_of}
 
@@ -36,22 +36,6 @@ module _ {A : Type 0} where
   pub mapped : {B : Type 0} (o : Option A) (f : A → B) (b : B) → option_map f o ≡ Some b → IsMapped o f b
   mapped None f b h = absurd (none-some b h)
   mapped (Some a) f b h = record { value = a; found = refl; is = ap (λ o. unwrap_or o b) h }
-
-  pub list_all_by : (p q : A → Bool) → ((a : A) → p a ≡ true → q a ≡ true) → (xs : List A) → list_all p xs ≡ true → list_all q xs ≡ true
-  list_all_by p q imply [] h = refl
-  list_all_by p q imply (a ∷ xs) h =
-      and_from (q a) (list_all q xs) (imply a (and_parts (p a) (list_all p xs) h).0) (list_all_by p q imply xs (and_parts (p a) (list_all p xs) h).1)
-
-  pub list_all_both : (p q : A → Bool) (xs : List A) → list_all p xs ≡ true → list_all q xs ≡ true → list_all (λ a. p a && q a) xs ≡ true
-  list_all_both p q [] g h = refl
-  list_all_both p q (a ∷ xs) g h =
-      and_from (p a && q a) (list_all (λ b. p b && q b) xs)
-      (and_from (p a) (q a) (and_parts (p a) (list_all p xs) g).0 (and_parts (q a) (list_all q xs) h).0)
-      (list_all_both p q xs (and_parts (p a) (list_all p xs) g).1 (and_parts (q a) (list_all q xs) h).1)
-
-  pub list_all_true : (xs : List A) → list_all (λ a. true) xs ≡ true
-  list_all_true [] = refl
-  list_all_true (a ∷ xs) = list_all_true xs
 
 -- what each value is read as passes the test
 pub all_of_pass : {A : Type 0} (reading : Data → Option A) (p : A → Bool) → ((d : Data) (a : A) → reading d ≡ Some a → p a ≡ true) →
