@@ -8,7 +8,7 @@ use Rattle.prod_model.specs.declared.expr.Expr.{Expr}
 use Rattle.prod_model.specs.declared.expr.Expr.TheOpen.{Expr-F, Num, Attr, Count, CountOf, Sum, Total, Number, Add, Sub, Times, Cmp, Is, Kind, And, Or, Not, If, All, Any}
 use Rattle.prod_model.specs.declared.expr.Expr.TheViews.{out-Expr, roll-Expr, roll-out-Expr}
 use Rattle.prod_model.specs.declared.expr_bounds.Bounds.{Bounds}
-use Rattle.prod_model.specs.Taxonomy.{attribute_of, port_of}
+use Rattle.prod_model.specs.Taxonomy.{attribute_of, declared_port_of}
 use Rattle.prod_model.specs.ExprBounds.{bounds_at, sum_of_some, truth_of, of_range, has_arguments}
 use Rattle.prod_model.specs.steps.ExprBounds.{sum_onto}
 use Rattle.prod_model.specs.Valid.{IsDeclared}
@@ -68,10 +68,10 @@ module _ (m : Model) (c : List Instance) (is : IsDeclared m) (shaped : IsTrue (i
   sum_some_limited : (l h : ℕ) (a b : ℤ) (bounds : Bounds) → sum_of_some l h a b ≡ Some bounds → IsLimited bounds
   sum_some_limited l h a b bounds told = bounded_limited (int_min (pos l *ℤ a) (pos h *ℤ a)) (int_max (pos l *ℤ b) (pos h *ℤ b)) bounds told
 
-  at_links : (p : ℕ) (e f : Expr) (h : HasBoundsAt m c i f) → option_and_then (λ q. truth_of (bounds_at m e q.target ∷ [])) (port_of m h.kind p) ≡ Some h.bounds
+  at_links : (p : ℕ) (e f : Expr) (h : HasBoundsAt m c i f) → option_and_then (λ q. truth_of (bounds_at m e q.target ∷ [])) (declared_port_of m h.kind p) ≡ Some h.bounds
       → HasBoundsAtEach m c (links_at_instance m c p i) e
   at_links p e f h told k j to =
-      let port = and_then_some (λ q. truth_of (bounds_at m e q.target ∷ [])) (port_of m h.kind p) h.bounds told in
+      let port = and_then_some (λ q. truth_of (bounds_at m e q.target ∷ [])) (declared_port_of m h.kind p) h.bounds told in
       let links = held_links m c is ((shaped_sentences m c).0 shaped) i h.instance h.stands h.kind h.under p port.0 port.1 in
       let linked = links.each k j to in
       let inner = truth_parts (λ x. bounds_at m x port.0.target) (e ∷ []) h.bounds port.2 0 e refl in
@@ -84,7 +84,7 @@ module _ (m : Model) (c : List Instance) (is : IsDeclared m) (shaped : IsTrue (i
   evaluable_roll (CountOf p t) h = tt
   evaluable_roll (Sum p a) h =
       let told = sym (bounds_at_Sum m h.kind p a) ∙ h.told in
-      let port = and_then_some (λ q. option_and_then (of_range (sum_of_some q.low q.high)) (attribute_of m q.target a)) (port_of m h.kind p) h.bounds told in
+      let port = and_then_some (λ q. option_and_then (of_range (sum_of_some q.low q.high)) (attribute_of m q.target a)) (declared_port_of m h.kind p) h.bounds told in
       let attribute = and_then_some (of_range (sum_of_some port.0.low port.0.high)) (attribute_of m port.0.target a) h.bounds port.2 in
       small (roll-Expr (Sum p a)) _ h (value_at_Sum m c i p a) (of_range_limited (sum_of_some port.0.low port.0.high) (sum_some_limited port.0.low port.0.high) attribute.0 h.bounds attribute.2)
   evaluable_roll (Total t a) h =

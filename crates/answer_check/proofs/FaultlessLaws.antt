@@ -1,5 +1,5 @@
 -- Rules and requests of a valid model and order have bounds where they are asked.
-use Rattle.std.proofs.Common.{◌≡◌, ℕ, ◌<◌, ◌∙◌, ap, ap₂, sym, Bool, true, false, not, ◌||◌, List, length, Option, Some, None, refl, arith}
+use Rattle.std.proofs.Common.{◌≡◌, ℕ, ◌<◌, ◌∙◌, ap, sym, true, false, List, length, Option, Some, None, refl}
 use Rattle.std.specs.Prelude.{slice_get, IsTrue}
 use Rattle.std.specs.Option.{option_map_or}
 use Rattle.std.proofs.lemmas.Bool.{and_parts, false≢true}

@@ -2,14 +2,14 @@
 use Rattle.std.proofs.Common.{◌≡◌, ℕ, ◌+◌, ◌<◌, ◌≤◌, ◌∙◌, sym, subst, refl, Bool, true, false, not, ◌&&◌, nat_lt, List, length, Option, Some, None, inl, inr, ltb-true, arith}
 use Rattle.std.specs.Prelude.{MatchOption, IsTrue, slice_get}
 use Rattle.std.proofs.lemmas.Bool.{cases_lt, and_parts, false≢true, lt-ltb}
+use Rattle.instance_set.specs.declared.set.InstanceSet.{InstanceSet}
+use Rattle.instance_set.specs.InstanceSets.{is_member, IsLeastFrom}
 use Rattle.prod_model.specs.declared.model.Model.{Model}
 use Rattle.prod_model.specs.declared.model.Rule.{Rule}
 use Rattle.config_value.specs.declared.configuration.Instance.{Instance}
 use Rattle.config_value.specs.Value.{is_under, is_true_at}
-use Rattle.answer_check.specs.declared.instance_set.InstanceSet.{InstanceSet}
 use Rattle.answer_check.specs.declared.place.Place.{Place}
 use Rattle.answer_check.specs.steps.Finds.{BreaksAt, FindsItem, FindsPlace}
-use Rattle.answer_check.specs.steps.InstanceSets.{is_member}
 use Rattle.answer_check.proofs.FaultlessLaws.{rule_broken, rule_broken_parts}
 use Rattle.answer_check.proofs.Items.{finds_same}
 
@@ -59,11 +59,16 @@ module _ (P : ℕ → ℕ → Type 0) (n : ℕ) where
 
 -- ---- rules
 
+-- the least member of a set
+least_found : (s : InstanceSet) (o : Option ℕ) → IsLeastFrom s 0 o → FindsItem (λ i. IsTrue (is_member s i)) o
+least_found s None none = λ i. none i (omega arith)
+least_found s (Some j) least = (least.1, λ i. least.2 i (omega arith))
+
 -- the first instance below these at which a rule is false, by the set of those
 pub rule_finds : (m : Model) (c : List Instance) (k : ℕ) (r : Rule) (below : ℕ) (s : InstanceSet) (o : Option ℕ) → slice_get m.rules k ≡ Some r
     → ((i : ℕ) → is_member s i ≡ ((nat_lt i below && is_under m c r.kind i) && not (is_true_at m c i r.holds)))
-    → FindsItem (λ i. IsTrue (is_member s i)) o → FindsBelow (BreaksAt m c 10) (length c) below k o
-rule_finds m c k r below s o rule is found =
+    → IsLeastFrom s 0 o → FindsBelow (BreaksAt m c 10) (length c) below k o
+rule_finds m c k r below s o rule is least =
     finds_same (λ i. IsTrue (is_member s i)) (λ i. (i < below) × BreaksAt m c 10 i k) o
     (λ i member.
     let all : ((nat_lt i below && is_under m c r.kind i) && not (is_true_at m c i r.holds)) ≡ true = sym (is i) ∙ member in
@@ -73,7 +78,7 @@ rule_finds m c k r below s o rule is found =
     (λ i broken.
     let parts = rule_broken_parts m c i k r rule broken.1 in
     is i ∙ all_three (nat_lt i below) (is_under m c r.kind i) (is_true_at m c i r.holds) (lt-ltb i below broken.0) parts.0 parts.1)
-    found
+    (least_found s o least)
   where
     not_false : (b : Bool) → not b ≡ true → b ≡ false
     not_false true fails = absurd (false≢true fails)

@@ -4,15 +4,15 @@ pub mod BrokenPorts
 pub mod BadValues
 pub mod BreakParts
 pub mod Singles
+pub mod Grown
 pub mod SeenParts
 pub mod SharedParts
-pub mod TurnMasks
+pub mod TurnSets
 pub mod EvaluationLaws
 pub mod BoundsUse
 pub mod FaultlessLaws
 pub mod FirstBreaks
 pub mod NoBreaks
-pub mod MemberLaws
 pub mod LinkedLaws
 pub mod TruthLaws
 pub mod FirstRule

@@ -1,12 +1,11 @@
 -- Truths of sets of instances, and of those that are linked from them.
-use Rattle.std.proofs.Common.{◌≡◌, ℕ, suc, ◌+◌, ◌<◌, ◌∙◌, ap, ap₂, sym, inl, inr, nat_lt, Bool, true, false, not, ◌&&◌, ◌||◌, List, [], ◌∷◌, length, Option, Some, None, refl, arith, zero-add, eqb-true, eq-eqb, lt-ltb}
+use Rattle.std.proofs.Common.{◌≡◌, ℕ, suc, ◌<◌, ◌∙◌, ap, ap₂, sym, Bool, true, false, not, ◌&&◌, ◌||◌, List, [], ◌∷◌, length, Some, refl, zero-add, eqb-true, eq-eqb}
 use Rattle.std.specs.Prelude.{◌==◌, slice_get, IsTrue}
-use Rattle.std.specs.Option.{is_some}
 use Rattle.std.specs.List.{list_any, list_all}
-use Rattle.std.proofs.Math.Bool.{and-true}
-use Rattle.std.proofs.lemmas.Bool.{and_parts, and_from, and_right, cases_Bool, false_from_ne_true}
-use Rattle.std.proofs.lemmas.Bool.Decides.{nat_tests}
+use Rattle.std.proofs.lemmas.Bool.{and_parts, and_from}
 use Rattle.std.proofs.lemmas.Option.{slice_get_within}
+use Rattle.instance_set.specs.declared.set.InstanceSet.{InstanceSet}
+use Rattle.instance_set.specs.InstanceSets.{is_member}
 use Rattle.prod_model.specs.declared.model.Model.{Model}
 use Rattle.prod_model.specs.declared.expr.Expr.{Expr}
 use Rattle.config_value.specs.declared.configuration.Instance.{Instance}
@@ -14,10 +13,8 @@ use Rattle.config_value.specs.Shaped.{instance_numbers}
 use Rattle.config_value.specs.Value.{is_true_at, links_at_instance}
 use Rattle.base_laws.proofs.Ranges.{slice_get_range_with_len}
 use Rattle.base_laws.proofs.Tests.{list_any_at, list_any_from}
-use Rattle.answer_check.specs.declared.instance_set.InstanceSet.{InstanceSet}
-use Rattle.answer_check.specs.steps.Finds.{FindsItem}
 use Rattle.answer_check.specs.steps.Evaluable.{HasBoundsAtEach}
-use Rattle.answer_check.specs.steps.InstanceSets.{is_member, HasBoundsAmong, AreTrueAmong}
+use Rattle.answer_check.specs.steps.InstanceSets.{HasBoundsAmong, AreTrueAmong}
 
 -- ---- tests
 
@@ -110,17 +107,7 @@ module _ (m : Model) (c : List Instance) (p : ℕ) (among linked : InstanceSet)
 
 -- ---- a set of one instance
 
--- of a set that has one instance at most, there is a first where the test of that one is true
-first_some : (found : InstanceSet) (i : ℕ) (b : Bool) (o : Option ℕ) → ((k : ℕ) → is_member found k ≡ ((k == i) && b))
-    → FindsItem (λ j. IsTrue (is_member found j)) o → is_some o ≡ b
-first_some found i b None is none = sym (false_from_ne_true b (λ right. none i (is i ∙ and_from _ _ (eq-eqb i i refl) right)))
-first_some found i b (Some k) is first = sym (and_parts _ _ (sym (is k) ∙ first.0)).1
-
--- so it is where a set of one instance is narrowed to those that pass
-pub first_alone : (passes : ℕ → Bool) (i : ℕ) (empty alone found : InstanceSet) (o : Option ℕ) → i < 64
-    → ((k : ℕ) → is_member empty k ≡ false) → ((k : ℕ) → is_member alone k ≡ (is_member empty k || ((k == i) && nat_lt i 64)))
-    → ((k : ℕ) → is_member found k ≡ (is_member alone k && passes k)) → FindsItem (λ j. IsTrue (is_member found j)) o → is_some o ≡ passes i
-first_alone passes i empty alone found o low none one is first =
-    first_some found i (passes i) o (λ k.
-    is k ∙ ap (λ b. b && passes k) (one k ∙ ap₂ (λ a b. a || ((k == i) && b)) (none k) (lt-ltb i 64 low) ∙ and-true (k == i))
-    ∙ and_same (k == i) (passes k) (passes i) (λ same. ap passes (eqb-true k i same))) first
+-- whether the expression is true at the one instance is whether that is found
+pub found_alone : (passes : ℕ → Bool) (i : ℕ) (empty alone found : InstanceSet) → ((k : ℕ) → is_member empty k ≡ false)
+    → ((k : ℕ) → is_member alone k ≡ (is_member empty k || (k == i))) → ((k : ℕ) → is_member found k ≡ (is_member alone k && passes k)) → is_member found i ≡ passes i
+found_alone passes i empty alone found none one is = is i ∙ ap (λ b. b && passes i) (one i ∙ ap₂ (λ a b. a || b) (none i) (eq-eqb i i refl))

@@ -1,5 +1,5 @@
 -- The tests that a configuration may break, and the first of them.
-use Rattle.std.specs.Prelude.{◌≡◌, ℕ, ℤ, ◌<◌, ◌≤◌, ◌==◌, IsTrue, IsFalse, List, [], ◌∷◌, length, slice_get, Contains, Some, count_by, if◌then◌else◌}
+use Rattle.std.specs.Prelude.{◌≡◌, ℕ, ℤ, ◌<◌, ◌≤◌, ◌==◌, IsTrue, IsFalse, List, [], ◌∷◌, length, Contains, count_by, if◌then◌else◌}
 use Rattle.std.specs.Ordering.{nat_cmp, is_lt}
 use Rattle.std.specs.Cmp.Lexicographic.{slice_cmp}
 use Rattle.base_laws.specs.Places.{IsAt}

@@ -5,11 +5,11 @@ ghost use Rattle.config_value.specs.Shaped.{is_shaped};
 ghost use Rattle.config_value.specs.Value.{value_at as value_at_of, is_true_at};
 ghost use Rattle.answer_check.specs.Faultless.{HasBoundsAt, IsFaultlessAt};
 
-use crate::instance_set::InstanceSet;
 use crate::numbers::number_at;
 use crate::truths::true_among;
 use config_value::{Configuration, Found};
 use expr_bounds::is_truth;
+use instance_set::InstanceSet;
 use prod_model::{Expr, Problem};
 
 /// What an expression is at an instance, which is under a type where the expression has no fault.
@@ -38,6 +38,7 @@ pub(crate) fn truth_at(problem: &Problem, c: &Configuration, i: u32, e: &Expr) -
     requires bounded { HasBoundsAt problem.now c.now i e.now }
     ensures { result ≡ is_true_at problem.now c.now i e.now }
 {
-    let alone = InstanceSet::empty().with(i);
-    true_among(problem, c, alone, e).first().is_some()
+    let mut alone = InstanceSet::empty();
+    alone.insert(i);
+    true_among(problem, c, alone, e).contains(i)
 }

@@ -16,7 +16,7 @@ pub(crate) fn is_instance_under(problem: &Problem, c: &Configuration, kind: u32,
 
 /// How many instances are under the type. One pass over the instances.
 pub(crate) fn count_under(problem: &Problem, c: &Configuration, kind: u32) -> usize
-    requires { length c.now ≤ 64 }
+    requires { length c.now ≤ 256 }
     ensures { result ≡ count_by (under problem.now kind) c.now }
 {
     let mut count = 0;

@@ -5,11 +5,9 @@
 pub mod codes;
 mod evaluate;
 mod in_order;
-mod instance_set;
 mod instances;
 mod linked;
 mod links;
-mod masks;
 mod numbers;
 mod parts;
 mod place;

@@ -1,71 +1,74 @@
 //! Instances that more than one part link leads to, or any to instance 0.
-ghost use Rattle.std.specs.Prelude.{◌≡◌, ◌<◌, ◌≤◌, IsTrue, length};
-ghost use Rattle.std.specs.List.{fold, zip};
-ghost use Rattle.prod_model.specs.Taxonomy.{ports_at};
-ghost use Rattle.config_value.specs.Shaped.{is_part as is_part_of};
+ghost use Rattle.std.specs.Prelude.{◌≡◌, ◌≤◌, [], ◌∷◌, IsTrue, length, if◌then◌else◌};
+ghost use Rattle.config_value.specs.Shaped.{is_part, part_links};
 ghost use Rattle.config_value.specs.Spelled.{is_spelled};
 ghost use Rattle.answer_check.specs.Codes.{shared_part_code};
 ghost use Rattle.answer_check.specs.steps.Finds.{BreaksAt, FindsPlace};
-ghost use Rattle.answer_check.specs.steps.Seen.{seen_after_link, seen_after_port, seen_after_instance, seen_in as seen_in_all, is_overfull as is_overfull_of, nothing_seen};
+ghost use Rattle.answer_check.specs.steps.Seen.{HasSeen, SeesMore, part_links_of, is_overfull as is_overfull_of};
 
-use crate::masks::{bit, has_bit};
 use crate::place::Place;
 use crate::types::ports_of;
 use config_value::{Configuration, Instance};
+use instance_set::InstanceSet;
 use prod_model::{PortAt, PortKind, Problem};
 
 /// Which instances part links were seen to lead to.
 #[derive(Clone, Copy)]
 pub(crate) struct Seen {
     /// The instances that at least one leads to.
-    once: u64,
+    once: InstanceSet,
     /// The instances that at least two lead to.
-    twice: u64,
+    twice: InstanceSet,
 }
 
 impl Seen {
-    fn after_link(self, j: u32) -> Seen
-        ensures { result ≡ seen_after_link self j }
+    fn add_link(&mut self, j: u32)
+        ensures { SeesMore self.old (j ∷ []) self.new }
     {
-        if 64 <= j {
-            return self;
+        if 256 <= j {
+            return;
         }
-        Seen {
-            once: self.once | bit(j),
-            twice: self.twice | (self.once & bit(j)),
+        if self.once.contains(j) {
+            self.twice.insert(j);
+        } else {
+            self.once.insert(j);
         }
     }
 
-    fn after_links(self, links: &[u32]) -> Seen
-        ensures { result ≡ fold seen_after_link self links.now }
+    fn add_links(&mut self, links: &[u32])
+        ensures { SeesMore self.old links.now self.new }
     {
-        links.iter().fold(self, |seen, j| seen.after_link(*j))
+        for j in links {
+            self.add_link(*j);
+        }
     }
 
-    fn after_port(self, port: &PortAt, links: &[u32]) -> Seen
-        ensures { result ≡ seen_after_port self (port.now, links.now) }
+    fn add_port(&mut self, port: &PortAt, links: &[u32])
+        ensures { SeesMore self.old (if is_part port.now then links.now else []) self.new }
     {
         match port.kind {
-            PortKind::Part => self.after_links(links),
-            PortKind::Shared => self,
+            PortKind::Part => self.add_links(links),
+            PortKind::Shared => {}
         }
     }
 
-    fn after_instance(self, problem: &Problem, instance: &Instance) -> Seen
-        ensures { result ≡ seen_after_instance problem.now self instance.now }
+    fn add_instance(&mut self, problem: &Problem, instance: &Instance)
+        ensures { SeesMore self.old (part_links_of problem.now instance.now) self.new }
     {
         let ports = ports_of(problem, instance.kind);
-        ports.iter().zip(instance.links.as_slice()).fold(
-            self,
-            |seen, (port, links)| seen.after_port(port, links.as_slice()),
-        )
+        for (port, links) in ports.iter().zip(instance.links.as_slice()) {
+            self.add_port(port, links.as_slice());
+        }
     }
 
-    fn is_overfull(self, j: u32) -> bool
-        requires { j < 64 }
-        ensures { result ≡ is_overfull_of self j }
+    fn is_overfull(&self, j: u32) -> bool
+        ensures { result ≡ is_overfull_of self.now j }
     {
-        has_bit(if j == 0 { self.once } else { self.twice }, j)
+        if j == 0 {
+            self.once.contains(j)
+        } else {
+            self.twice.contains(j)
+        }
     }
 }
 
@@ -87,14 +90,16 @@ pub(crate) fn shared_part(problem: &Problem, c: &Configuration) -> Option<Place>
     None
 }
 
-#[tactic(auto, using(base_laws::proofs::Steps::fold_next))]
 fn seen_in(problem: &Problem, c: &Configuration) -> Seen
-    requires { length c.now ≤ 64 }
-    ensures { result ≡ seen_in_all problem.now c.now }
+    requires { length c.now ≤ 256 }
+    ensures { HasSeen result (part_links problem.now c.now) }
 {
-    let mut seen = Seen { once: 0, twice: 0 };
+    let mut seen = Seen {
+        once: InstanceSet::empty(),
+        twice: InstanceSet::empty(),
+    };
     for i in 0..c.len() as u32 {
-        seen = seen.after_instance(problem, c.get(i));
+        seen.add_instance(problem, c.get(i));
     }
     seen
 }

@@ -57,7 +57,7 @@ pub(crate) fn bad_count(problem: &Problem, c: &Configuration) -> Option<Place>
 }
 
 fn place_of_bad_count(problem: &Problem, c: &Configuration) -> Option<usize>
-    requires { length c.now ≤ 64 }
+    requires { length c.now ≤ 256 }
     ensures { result ≡ position (λ n. not (is_between_of n.low n.high
         (count_by (under problem.now n.kind) c.now))) problem.now.bounds }
 {

@@ -23,7 +23,7 @@ pub(crate) fn count_links(problem: &Problem, c: &Configuration, links: &[u32], k
 
 /// How many instances are under the type.
 pub(crate) fn number_under(problem: &Problem, c: &Configuration, kind: u32) -> i64
-    requires { length c.now ≤ 64 }
+    requires { length c.now ≤ 256 }
     ensures { result ≡ pos (count_by (under problem.now kind) c.now) }
 {
     count_under(problem, c, kind) as i64
@@ -42,7 +42,7 @@ pub(crate) fn sum_links(problem: &Problem, c: &Configuration, links: &[u32], id:
 
 /// The sum of an attribute over the instances under a type.
 pub(crate) fn sum_under(problem: &Problem, c: &Configuration, kind: u32, id: u32) -> i128
-    requires { length c.now ≤ 64 }
+    requires { length c.now ≤ 256 }
     ensures { result
         ≡ sum_of (map (λ x. value_of_at problem.now x id) (filter (under problem.now kind) c.now)) }
 {

@@ -3,19 +3,20 @@
 //! for one part.
 ghost use Rattle.std.specs.Prelude.{◌≡◌, ℕ, ◌&&◌, not, IsTrue};
 ghost use Rattle.std.specs.List.{list_all, list_any};
+ghost use Rattle.instance_set.specs.InstanceSets.{is_member};
 ghost use Rattle.prod_model.specs.declared.expr.Expr.TheViews.{out-Expr};
 ghost use Rattle.prod_model.specs.Valid.{IsValid};
 ghost use Rattle.config_value.specs.Shaped.{is_shaped};
 ghost use Rattle.config_value.specs.Value.{is_true_at};
 ghost use Rattle.answer_check.specs.steps.Evaluable.{simple_truth};
 ghost use Rattle.answer_check.specs.Faultless.{HasBoundsAt};
-ghost use Rattle.answer_check.specs.steps.InstanceSets.{is_member, HasBoundsAmong, EachHasBoundsAmong, AreTrueAmong};
+ghost use Rattle.answer_check.specs.steps.InstanceSets.{HasBoundsAmong, EachHasBoundsAmong, AreTrueAmong};
 
-use crate::instance_set::InstanceSet;
 use crate::instances::{is_instance_under, value_at_instance};
 use crate::linked::{linked_from, linking_only};
 use crate::numbers::number_at;
 use config_value::{Configuration, holds};
+use instance_set::InstanceSet;
 use prod_model::{Expr, Problem};
 
 /// Of a set of instances under types where an expression has bounds, those at which it is true;
@@ -35,12 +36,12 @@ pub(crate) fn true_among(
 {
     match e {
         Expr::And(args) => all_among(problem, c, among, args.as_slice()),
-        Expr::Or(args) => among.without(none_among(problem, c, among, args.as_slice())),
-        Expr::Not(a) => among.without(true_among(problem, c, among, a.get())),
+        Expr::Or(args) => among.difference(none_among(problem, c, among, args.as_slice())),
+        Expr::Not(a) => among.difference(true_among(problem, c, among, a.get())),
         Expr::If(a, b) => {
             let premise = true_among(problem, c, among, a.get());
             let both = true_among(problem, c, premise, b.get());
-            among.without(premise).or(both)
+            among.difference(premise).union(both)
         }
         Expr::All(p, a) => {
             let linked = linked_from(problem, c, *p, among);
@@ -49,8 +50,8 @@ pub(crate) fn true_among(
         }
         Expr::Any(p, a) => {
             let linked = linked_from(problem, c, *p, among);
-            let others = linked.without(true_among(problem, c, linked, a.get()));
-            among.without(linking_only(problem, c, *p, among, others))
+            let others = linked.difference(true_among(problem, c, linked, a.get()));
+            among.difference(linking_only(problem, c, *p, among, others))
         }
         _ => simple_among(problem, c, among, e),
     }
@@ -90,7 +91,7 @@ fn none_among(
 {
     let mut left = among;
     for e in args {
-        left = left.without(true_among(problem, c, left, e));
+        left = left.difference(true_among(problem, c, left, e));
     }
     left
 }
@@ -105,10 +106,12 @@ fn simple_among(problem: &Problem, c: &Configuration, among: InstanceSet, e: &Ex
         ≡ (is_member among i && simple_truth problem.now c.now i (out-Expr e.now)) }
 {
     let mut found = InstanceSet::empty();
-    for i in 0..c.len() as u32 {
-        if among.has(i) && is_simply_true(problem, c, i, e) {
-            found = found.with(i);
+    let mut from = 0;
+    while let Some(i) = among.least_from(from) {
+        if is_simply_true(problem, c, i, e) {
+            found.insert(i);
         }
+        from = i + 1;
     }
     found
 }

@@ -1,16 +1,16 @@
 //! Instances that are out of turn: a lower one doesn't mention them first, or not after the one
 //! before them.
-ghost use Rattle.std.specs.Prelude.{◌≡◌, ◌<◌, ◌≤◌, ◌==◌, IsTrue, length};
-ghost use Rattle.std.specs.Int.{bit_at};
-ghost use Rattle.std.specs.List.{fold};
+ghost use Rattle.std.specs.Prelude.{◌≡◌, ◌≤◌, [], ◌∷◌, IsTrue, length};
+ghost use Rattle.std.specs.List.{flat_map};
+ghost use Rattle.config_value.specs.Numbered.{all_links};
 ghost use Rattle.config_value.specs.Spelled.{is_spelled};
 ghost use Rattle.answer_check.specs.Codes.{misnumbered_code};
 ghost use Rattle.answer_check.specs.steps.Finds.{BreaksAt, FindsPlace};
-ghost use Rattle.answer_check.specs.steps.Turns.{comes_in_turn as comes_in_turn_of, turns_after_link, turns_after_port, turns_after_instance, turns_in as turns_in_all};
+ghost use Rattle.answer_check.specs.steps.Turns.{HasTurns, ReadsMore, links_from, comes_in_turn as comes_in_turn_of};
 
-use crate::masks::{bit, has_bit};
 use crate::place::Place;
 use config_value::{Configuration, Instance};
+use instance_set::InstanceSet;
 use prod_model::Problem;
 
 /// Which instances are mentioned, and which of them in turn.
@@ -20,49 +20,47 @@ use prod_model::Problem;
 /// and an instance may be in turn after others that are not.
 #[derive(Clone, Copy)]
 pub(crate) struct Turns {
-    mentioned: u64,
-    in_turn: u64,
+    mentioned: InstanceSet,
+    in_turn: InstanceSet,
 }
 
 impl Turns {
-    fn after_link(self, from: u32, j: u32) -> Turns
-        ensures { result ≡ turns_after_link from self j }
+    fn add_link(&mut self, from: u32, j: u32)
+        ensures { ReadsMore self.old (record { from = from; to = j } ∷ []) self.new }
     {
-        if 64 <= j || has_bit(self.mentioned, j) {
-            return self;
+        if 256 <= j {
+            return;
         }
-        Turns {
-            mentioned: self.mentioned | bit(j),
-            in_turn: if self.comes_in_turn(from, j) {
-                self.in_turn | bit(j)
-            } else {
-                self.in_turn
-            },
+        if self.mentioned.contains(j) {
+            return;
+        }
+        let in_turn = self.comes_in_turn(from, j);
+        self.mentioned.insert(j);
+        if in_turn {
+            self.in_turn.insert(j);
         }
     }
 
-    fn comes_in_turn(self, from: u32, j: u32) -> bool
-        requires { j < 64 }
-        ensures { result ≡ comes_in_turn_of self from j }
+    fn comes_in_turn(&self, from: u32, j: u32) -> bool
+        ensures { result ≡ comes_in_turn_of self.now from j }
     {
-        from < j && (j == 1 || has_bit(self.mentioned, j - 1))
+        from < j && (j == 1 || self.mentioned.contains(j - 1))
     }
 
-    fn after_port(self, from: u32, links: &[u32]) -> Turns
-        ensures { result ≡ turns_after_port from self links.now }
+    fn add_port(&mut self, from: u32, links: &[u32])
+        ensures { ReadsMore self.old (links_from from links.now) self.new }
     {
-        links
-            .iter()
-            .fold(self, |turns, j| turns.after_link(from, *j))
+        for j in links {
+            self.add_link(from, *j);
+        }
     }
 
-    fn after_instance(self, from: u32, instance: &Instance) -> Turns
-        ensures { result ≡ turns_after_instance self (from, instance.now) }
+    fn add_instance(&mut self, from: u32, instance: &Instance)
+        ensures { ReadsMore self.old (flat_map (links_from from) instance.now.links) self.new }
     {
-        instance.links.as_slice().iter().fold(
-            self,
-            |turns, links| turns.after_port(from, links.as_slice()),
-        )
+        for links in instance.links.as_slice() {
+            self.add_port(from, links.as_slice());
+        }
     }
 }
 
@@ -73,7 +71,7 @@ pub(crate) fn out_of_turn(problem: &Problem, c: &Configuration) -> Option<Place>
 {
     let turns = turns_in(c);
     for j in 1..c.len() as u32 {
-        if !has_bit(turns.in_turn, j) {
+        if !turns.in_turn.contains(j) {
             return Some(Place {
                 instance: j,
                 item: 0,
@@ -84,15 +82,15 @@ pub(crate) fn out_of_turn(problem: &Problem, c: &Configuration) -> Option<Place>
 }
 
 fn turns_in(c: &Configuration) -> Turns
-    requires { length c.now ≤ 64 }
-    ensures { result ≡ turns_in_all c.now }
+    requires { length c.now ≤ 256 }
+    ensures { HasTurns result (all_links c.now) }
 {
     let mut turns = Turns {
-        mentioned: 0,
-        in_turn: 0,
+        mentioned: InstanceSet::empty(),
+        in_turn: InstanceSet::empty(),
     };
     for i in 0..c.len() as u32 {
-        turns = turns.after_instance(i, c.get(i));
+        turns.add_instance(i, c.get(i));
     }
     turns
 }

@@ -1,20 +1,12 @@
--- Sets of instances, and where an expression is true.
-use Rattle.std.specs.Prelude.{◌≡◌, ℕ, ◌^◌, ◌==◌, ◌&&◌, Bool, nat_lt, bit_or, IsTrue, List, slice_get, Some, if◌then◌else◌}
-use Rattle.std.specs.Int.{bit_at}
+-- Where an expression has bounds, and where it is true, in sets of instances.
+use Rattle.std.specs.Prelude.{◌≡◌, ℕ, ◌&&◌, IsTrue, List, slice_get, Some}
+use Rattle.instance_set.specs.declared.set.InstanceSet.{InstanceSet}
+use Rattle.instance_set.specs.InstanceSets.{is_member}
 use Rattle.prod_model.specs.declared.model.Model.{Model}
 use Rattle.prod_model.specs.declared.expr.Expr.{Expr}
 use Rattle.config_value.specs.declared.configuration.Instance.{Instance}
 use Rattle.config_value.specs.Value.{is_true_at}
-use Rattle.answer_check.specs.declared.instance_set.InstanceSet.{InstanceSet}
 use Rattle.answer_check.specs.Faultless.{HasBoundsAt}
-
--- the instance is one of the set
-abbrev pub is_member : InstanceSet → ℕ → Bool
-is_member s j = bit_at s.mask j == 1
-
--- the set with one more instance, for which there has to be a place in the mask
-abbrev pub with_instance : InstanceSet → ℕ → InstanceSet
-with_instance s j = if nat_lt j 64 then record { mask = bit_or s.mask (2 ^ j) } else s
 
 -- the expression has bounds at each instance of the set
 abbrev pub HasBoundsAmong : Model → List Instance → InstanceSet → Expr → Type 0

@@ -1,6 +1,8 @@
-use Rattle.std.proofs.Common.{◌≡◌, take, fold}
-use Rattle.answer_check.specs.steps.Seen.{nothing_seen, seen_after_instance}
+use Rattle.std.proofs.Common.{take}
+use Rattle.config_value.specs.Shaped.{part_links}
+use Rattle.answer_check.specs.steps.Seen.{HasSeen}
 use Rattle.answer_check.proofs.parts.seen_in.Given as goal
 
+-- the part links of the instances so far are seen
 abbrev pub invariant-loop-i : goal.invariant-loop-i
-invariant-loop-i l = l.seen ≡ fold (seen_after_instance l.problem) nothing_seen (take l.i l.c)
+invariant-loop-i l = HasSeen l.seen (part_links l.problem (take l.i l.c))

@@ -11,20 +11,17 @@ seen_in-seen-requires c = few_instances c.args.problem.now c.args.c.now c.requir
 pub overflow_cast-j-end : goal.overflow_cast-j-end
 overflow_cast-j-end c = omega (arith, few_instances c.args.problem.now c.args.c.now c.requires)
 
-pub is_overfull-requires : goal.is_overfull-requires
-is_overfull-requires c = omega (arith, few_instances c.args.problem.now c.args.c.now c.requires)
-
 pub returns-then-is_overfull : goal.returns-then-is_overfull
 returns-then-is_overfull c =
-    let low : c.loop-j.j < 64 = omega (arith, few_instances c.args.problem.now c.args.c.now c.requires) in
+    let low : c.loop-j.j < 256 = omega (arith, few_instances c.args.problem.now c.args.c.now c.requires) in
     first_place (BreaksAt c.args.problem.now c.args.c.now 7) c.loop-j.j 0 c.loop-j.invariant
-    (shared_found c.args.problem.now c.args.c.now c.loop-j.j low (omega arith) (grind arith))
+    (shared_found c.args.problem.now c.args.c.now c.seen_in-seen.result c.seen_in-seen.ensures c.loop-j.j low (omega arith) (grind arith))
 
 pub loop-j-preserved : goal.loop-j-preserved
 loop-j-preserved c =
-    let low : c.loop-j.j < 64 = omega (arith, few_instances c.args.problem.now c.args.c.now c.requires) in
+    let low : c.loop-j.j < 256 = omega (arith, few_instances c.args.problem.now c.args.c.now c.requires) in
     no_place_next (BreaksAt c.args.problem.now c.args.c.now 7) c.loop-j.j c.loop-j.invariant
-    (shared_none c.args.problem.now c.args.c.now c.loop-j.j low (grind arith))
+    (shared_none c.args.problem.now c.args.c.now c.seen_in-seen.result c.seen_in-seen.ensures c.loop-j.j low (grind arith))
 
 pub returns : goal.returns
 returns c =

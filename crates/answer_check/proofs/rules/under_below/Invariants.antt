@@ -1,6 +1,6 @@
 use Rattle.std.proofs.Common.{◌≡◌, ℕ, ◌&&◌, nat_lt}
 use Rattle.config_value.specs.Value.{is_under}
-use Rattle.answer_check.specs.steps.InstanceSets.{is_member}
+use Rattle.instance_set.specs.InstanceSets.{is_member}
 use Rattle.answer_check.proofs.rules.under_below.Given as goal
 
 -- the instances so far

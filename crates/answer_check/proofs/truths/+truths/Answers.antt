@@ -1,4 +1,4 @@
-use Rattle.std.proofs.Common.{◌∙◌, ap, sym, length, refl, take, arith, rules}
+use Rattle.std.proofs.Common.{◌≡◌, ◌∙◌, ◌&&◌, ◌||◌, not, ap, sym, length, refl, take, arith, rules}
 use Rattle.std.specs.List.{list_all, list_any}
 use Rattle.std.proofs.lemmas.Bool.{and_parts}
 use Rattle.std.proofs.Math.Bool.{and_assoc}
@@ -8,7 +8,7 @@ use Rattle.prod_model.proofs.expr.Expr.TheLaws.{the_size}
 use Rattle.prod_model.specs.declared.expr.Expr.{the_lemmas}
 use Rattle.std.proofs.lemmas.Option.{slice_get_read}
 use Rattle.config_value.specs.Value.{is_true_at, links_at_instance}
-use Rattle.answer_check.specs.steps.InstanceSets.{is_member}
+use Rattle.instance_set.specs.InstanceSets.{is_member}
 use Rattle.base_laws.proofs.Steps.{all_next, any_next}
 use Rattle.answer_check.proofs.EvaluationLaws.{value_at_form, evaluable}
 use Rattle.answer_check.proofs.TruthLaws.{none_more, but_not, but_not_not, if_then, bounded_within, linked_bounded, all_linked, any_linked}
@@ -115,12 +115,6 @@ true_among-true_among-requires-in-Any t c = (
   ),
 )
 
-pub true_among-linking_only-requires-clause-within : goal.true_among-linking_only-requires-clause-within
-true_among-linking_only-requires-clause-within t c = bounded_within c.args.problem.now c.args.c.now c.args.among c.args.e.now c.requires.bounded
-
-pub true_among-linking_only-requires-in-Any-clause-within : goal.true_among-linking_only-requires-in-Any-clause-within
-true_among-linking_only-requires-in-Any-clause-within t c = bounded_within c.args.problem.now c.args.c.now c.args.among c.args.e.now c.requires.bounded
-
 pub all_among-true_among-left-requires : goal.all_among-true_among-left-requires
 all_among-true_among-left-requires t c =
     let at = slice_get_read c.args.args.now (length c.args.args.now) c.loop-e.e-index c.e-item.result refl c.loop-e-test.true c.e-item.is in
@@ -170,7 +164,7 @@ none_among-loop-e-preserved t c = λ i.
     let order = none_more (is_member c.args.among i) (list_any (is_true_at c.args.problem.now c.args.c.now i) (take c.loop-e.e-index c.args.args.now)) (is_true_at c.args.problem.now c.args.c.now i c.e-item.result) in
     let told = c.true_among.ensures i in
     let before = c.loop-e.invariant i in
-    let left = c.without-left.ensures i in
+    let left = c.difference-left.ensures i in
     cc
 
 -- ---- where it is true
@@ -191,6 +185,11 @@ true_among-returns-in-Not t c = λ i.
 pub true_among-returns-in-If : goal.true_among-returns-in-If
 true_among-returns-in-If t c = λ i.
     let both = if_then (is_member c.args.among i) (is_true_at c.args.problem.now c.args.c.now i c.get-in-If.result.now) (is_true_at c.args.problem.now c.args.c.now i c.get-in-If-2.result.now) in
+    let premise = c.true_among-premise.ensures i in
+    let found = c.true_among-both.ensures i in
+    let others = c.difference-in-If.ensures i in
+    let either = c.union.ensures i in
+    let told : is_member c.union.result i ≡ (is_member c.args.among i && (not (is_true_at c.args.problem.now c.args.c.now i c.get-in-If.result.now) || is_true_at c.args.problem.now c.args.c.now i c.get-in-If-2.result.now)) = cc in
     rw (value_at_form c.args.problem.now c.args.c.now i c.args.e.now) (search (rules, the_lemmas))
 
 pub true_among-returns-in-All : goal.true_among-returns-in-All
@@ -202,8 +201,10 @@ true_among-returns-in-All t c = λ i.
 pub true_among-returns-in-Any : goal.true_among-returns-in-Any
 true_among-returns-in-Any t c = λ i.
     let within = bounded_within c.args.problem.now c.args.c.now c.args.among c.args.e.now c.requires.bounded in
-    let any = any_linked c.args.problem.now c.args.c.now c.in-Any.p c.args.among c.linked_from-linked-in-Any.result c.linked_from-linked-in-Any.ensures within c.get-in-Any.result.now c.true_among-in-Any.result c.true_among-in-Any.ensures c.without-others.result c.without-others.ensures i in
+    let any = any_linked c.args.problem.now c.args.c.now c.in-Any.p c.args.among c.linked_from-linked-in-Any.result c.linked_from-linked-in-Any.ensures within c.get-in-Any.result.now c.true_among-in-Any.result c.true_among-in-Any.ensures c.difference-others.result c.difference-others.ensures i in
     let twice = but_not_not (is_member c.args.among i) (list_any (λ j. is_true_at c.args.problem.now c.args.c.now j c.get-in-Any.result.now) (links_at_instance c.args.problem.now c.args.c.now c.in-Any.p i)) in
+    let told : is_member c.difference-in-Any.result i ≡ (is_member c.args.among i && list_any (λ j. is_true_at c.args.problem.now c.args.c.now j c.get-in-Any.result.now) (links_at_instance c.args.problem.now c.args.c.now c.in-Any.p i)) =
+    c.difference-in-Any.ensures i ∙ ap (λ b. is_member c.args.among i && not b) (c.linking_only-in-Any.ensures i ∙ any) ∙ twice in
     rw (value_at_form c.args.problem.now c.args.c.now i c.args.e.now) (search (rules, the_lemmas))
 
 pub true_among-returns-in_default : goal.true_among-returns-in_default

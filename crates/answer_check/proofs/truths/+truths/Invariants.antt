@@ -1,7 +1,7 @@
 use Rattle.std.proofs.Common.{◌≡◌, ℕ, ◌&&◌, not, take}
 use Rattle.std.specs.List.{list_all, list_any}
 use Rattle.config_value.specs.Value.{is_true_at}
-use Rattle.answer_check.specs.steps.InstanceSets.{is_member}
+use Rattle.instance_set.specs.InstanceSets.{is_member}
 use Rattle.answer_check.proofs.truths.+truths.Given as goal
 
 -- those at which the arguments so far are true
