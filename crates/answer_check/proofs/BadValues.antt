@@ -13,7 +13,7 @@ use Rattle.config_value.specs.ShapedSentences.{IsBuilt}
 use Rattle.config_value.specs.Spelled.{is_spelled}
 use Rattle.base_laws.proofs.Tests.{list_all_at}
 use Rattle.config_value.proofs.ShapedParts.{is_built, is_built_at}
-use Rattle.answer_check.specs.Breaks.{too_many, other_root, bad_value, no_instance, off_target, bad_number, shared_part, misnumbered, bad_count, false_rule}
+use Rattle.answer_check.specs.Breaks.{too_many, other_root, bad_value, no_instance, off_target, bad_number, shared_part, not_linked_back, misnumbered, bad_count, false_rule}
 use Rattle.answer_check.specs.steps.Finds.{BreaksAt}
 
 -- an instance of a spelled configuration has a leaf type, and lists as long as the type asks
@@ -46,6 +46,7 @@ bad_parts m c code i k three (no_instance is _ _ _ _ _ _) = absurd (omega arith)
 bad_parts m c code i k three (off_target is _ _ _ _ _ _ _ _) = absurd (omega arith)
 bad_parts m c code i k three (bad_number is _ _ _ _) = absurd (omega arith)
 bad_parts m c code i k three (shared_part is _ _ _) = absurd (omega arith)
+bad_parts m c code i k three (not_linked_back is _ _ _ _ _ _ _ _) = absurd (omega arith)
 bad_parts m c code i k three (misnumbered is _ _ _ _) = absurd (omega arith)
 bad_parts m c code i k three (bad_count is _ _ _ _) = absurd (omega arith)
 bad_parts m c code i k three (false_rule is _ _ _ _ _ _) = absurd (omega arith)

@@ -11,7 +11,7 @@ use Rattle.config_value.specs.Value.{under, is_under, is_true_at}
 use Rattle.config_value.specs.Shaped.{part_links}
 use Rattle.config_value.specs.Numbered.{is_in_turn}
 use Rattle.base_laws.specs.Places.{IsAt}
-use Rattle.answer_check.specs.Breaks.{most_part_links, too_many, other_root, bad_value, no_instance, off_target, bad_number, shared_part, misnumbered, bad_count, false_rule}
+use Rattle.answer_check.specs.Breaks.{most_part_links, too_many, other_root, bad_value, no_instance, off_target, bad_number, shared_part, not_linked_back, misnumbered, bad_count, false_rule}
 use Rattle.answer_check.specs.steps.Finds.{BreaksAt}
 
 module _ (m : Model) (c : List Instance) (code i k : ℕ) where
@@ -23,6 +23,7 @@ module _ (m : Model) (c : List Instance) (code i k : ℕ) where
   too_many_parts here (off_target is _ _ _ _ _ _ _ _) = absurd (omega arith)
   too_many_parts here (bad_number is _ _ _ _) = absurd (omega arith)
   too_many_parts here (shared_part is _ _ _) = absurd (omega arith)
+  too_many_parts here (not_linked_back is _ _ _ _ _ _ _ _) = absurd (omega arith)
   too_many_parts here (misnumbered is _ _ _ _) = absurd (omega arith)
   too_many_parts here (bad_count is _ _ _ _) = absurd (omega arith)
   too_many_parts here (false_rule is _ _ _ _ _ _) = absurd (omega arith)
@@ -35,12 +36,14 @@ module _ (m : Model) (c : List Instance) (code i k : ℕ) where
   other_root_parts here (off_target is _ _ _ _ _ _ _ _) = absurd (omega arith)
   other_root_parts here (bad_number is _ _ _ _) = absurd (omega arith)
   other_root_parts here (shared_part is _ _ _) = absurd (omega arith)
+  other_root_parts here (not_linked_back is _ _ _ _ _ _ _ _) = absurd (omega arith)
   other_root_parts here (misnumbered is _ _ _ _) = absurd (omega arith)
   other_root_parts here (bad_count is _ _ _ _) = absurd (omega arith)
   other_root_parts here (false_rule is _ _ _ _ _ _) = absurd (omega arith)
 
   pub shared_part_parts : code ≡ 7 → BreaksAt m c code i k → (k ≡ 0) × (i < length c) × (most_part_links i < count_by (λ j. j == i) (part_links m c))
   shared_part_parts here (shared_part is item within shared) = (item, within, shared)
+  shared_part_parts here (not_linked_back is _ _ _ _ _ _ _ _) = absurd (omega arith)
   shared_part_parts here (too_many is _ _ _) = absurd (omega arith)
   shared_part_parts here (other_root is _ _ _) = absurd (omega arith)
   shared_part_parts here (bad_value is _ _ _ _ _ _ _) = absurd (omega arith)
@@ -60,6 +63,7 @@ module _ (m : Model) (c : List Instance) (code i k : ℕ) where
   misnumbered_parts here (off_target is _ _ _ _ _ _ _ _) = absurd (omega arith)
   misnumbered_parts here (bad_number is _ _ _ _) = absurd (omega arith)
   misnumbered_parts here (shared_part is _ _ _) = absurd (omega arith)
+  misnumbered_parts here (not_linked_back is _ _ _ _ _ _ _ _) = absurd (omega arith)
   misnumbered_parts here (bad_count is _ _ _ _) = absurd (omega arith)
   misnumbered_parts here (false_rule is _ _ _ _ _ _) = absurd (omega arith)
 
@@ -72,6 +76,7 @@ module _ (m : Model) (c : List Instance) (code i k : ℕ) where
   bad_count_parts here (off_target is _ _ _ _ _ _ _ _) = absurd (omega arith)
   bad_count_parts here (bad_number is _ _ _ _) = absurd (omega arith)
   bad_count_parts here (shared_part is _ _ _) = absurd (omega arith)
+  bad_count_parts here (not_linked_back is _ _ _ _ _ _ _ _) = absurd (omega arith)
   bad_count_parts here (misnumbered is _ _ _ _) = absurd (omega arith)
   bad_count_parts here (false_rule is _ _ _ _ _ _) = absurd (omega arith)
 
@@ -84,5 +89,6 @@ module _ (m : Model) (c : List Instance) (code i k : ℕ) where
   false_rule_parts here (off_target is _ _ _ _ _ _ _ _) = absurd (omega arith)
   false_rule_parts here (bad_number is _ _ _ _) = absurd (omega arith)
   false_rule_parts here (shared_part is _ _ _) = absurd (omega arith)
+  false_rule_parts here (not_linked_back is _ _ _ _ _ _ _ _) = absurd (omega arith)
   false_rule_parts here (misnumbered is _ _ _ _) = absurd (omega arith)
   false_rule_parts here (bad_count is _ _ _ _) = absurd (omega arith)

@@ -24,9 +24,6 @@ module _ (P : ℕ → ℕ → Type 0) (n : ℕ) where
   abbrev pub FindsBelow : ℕ → ℕ → Option ℕ → Type 0
   FindsBelow below k = FindsItem (λ i. (i < below) × P i k)
 
-  pub first_start : IsFirstSoFar 0 None n
-  first_start = record { within = omega arith; none_lower = λ i k lower item. absurd (omega arith); found = refl }
-
   pub first_found : (items : ℕ) (first : Option Place) (below i : ℕ) → IsFirstSoFar items first below → FindsBelow below items (Some i)
       → IsFirstSoFar (items + 1) (Some (record { instance = i; item = items })) i
   first_found items first below i so_far here = record {

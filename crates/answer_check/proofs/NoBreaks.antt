@@ -1,5 +1,5 @@
 -- A spelled configuration without breaks satisfies the model, and one that satisfies it has none.
-use Rattle.std.proofs.Common.{◌≡◌, ℕ, ◌-◌, ◌<◌, ◌≤◌, inl, inr, ◌∙◌, ap, sym, Bool, true, false, not, ◌&&◌, ◌||◌, ◌==◌, nat_le, List, length, Some, Contains, refl, le-leb, leb-true, zero-add, arith}
+use Rattle.std.proofs.Common.{◌≡◌, ℕ, ◌+◌, ◌-◌, ◌<◌, ◌≤◌, inl, inr, ◌∙◌, ap, sym, Bool, true, false, not, ◌&&◌, ◌||◌, ◌==◌, nat_le, List, length, Some, Contains, refl, le-leb, leb-true, zero-add, arith}
 use Rattle.std.specs.Prelude.{slice_get, IsTrue}
 use Rattle.std.specs.List.{list_all, count_by, enumerate_from, range_with_len}
 use Rattle.std.proofs.lemmas.Bool.{and_parts, and_from, cases_lt, true≢false}
@@ -11,7 +11,7 @@ use Rattle.prod_model.specs.Limits.{is_between, most_instances}
 use Rattle.prod_model.specs.Taxonomy.{attributes_at, ports_at}
 use Rattle.config_value.specs.declared.configuration.Instance.{Instance}
 use Rattle.config_value.specs.Value.{under, is_under, is_true_at}
-use Rattle.config_value.specs.Shaped.{is_shaped, has_root, has_size, has_value, has_values, has_links_of, has_links, has_single_parts, has_counts, has_leaf_types, ascends, part_links, instance_numbers}
+use Rattle.config_value.specs.Shaped.{is_shaped, has_root, has_size, has_value, has_values, has_links_of, has_links, has_single_parts, links_back, has_links_back, has_counts, has_leaf_types, ascends, part_links, instance_numbers}
 use Rattle.config_value.specs.Numbered.{is_in_turn, is_numbered}
 use Rattle.config_value.specs.Satisfies.{follows_rules, satisfies}
 use Rattle.config_value.specs.Spelled.{is_spelled, is_spelled_value, is_spelled_links}
@@ -19,10 +19,12 @@ use Rattle.base_laws.proofs.Ranges.{slice_get_range_with_len, range_with_len_lt,
 use Rattle.base_laws.proofs.Elements.{contained_at, at_contained}
 use Rattle.base_laws.proofs.Tests.{list_all_at, list_all_from, pointwise_at, pointwise_from, option_map_or_at, option_map_or_from}
 use Rattle.config_value.proofs.Places.{is_between_at, is_between_from}
+use Rattle.config_value.proofs.LinksBack.{has_links_back_at, has_links_back_from, each_links_back, links_back_each}
 use Rattle.config_value.proofs.ShapedParts.{PassesEach, passes_each, is_shaped_from}
 use Rattle.answer_check.specs.declared.verdict.Verdict.{Verdict}
 use Rattle.answer_check.specs.declared.verdict.Verdict.TheVariants.{Satisfied, Broken}
-use Rattle.answer_check.specs.Breaks.{Break, Breaks, HasPort, Tells, most_part_links, too_many, other_root, bad_value, no_instance, off_target, bad_number, shared_part, misnumbered, bad_count, false_rule}
+use Rattle.answer_check.specs.Breaks.{Break, Breaks, HasPort, Tells, most_part_links, too_many, other_root, bad_value, no_instance, off_target, bad_number, shared_part, not_linked_back, misnumbered, bad_count, false_rule}
+use Rattle.answer_check.specs.Codes.{turn_of}
 use Rattle.answer_check.specs.steps.Finds.{HasNoBreakBelow}
 use Rattle.answer_check.proofs.BadValues.{built}
 
@@ -52,8 +54,8 @@ spelled_links m c i k x links spelled at there =
 -- ---- without breaks
 
 module _ (m : Model) (c : List Instance) (spelled : IsTrue (is_spelled m c)) where
-  module _ (none : HasNoBreakBelow m c 10) where
-    never : (b : Break) → b.code < 10 → Breaks m c b → ⊥
+  module _ (none : HasNoBreakBelow m c 11) where
+    never : (b : Break) → turn_of b.code < 11 → Breaks m c b → ⊥
     never b low broken = let least = none b broken in absurd (omega arith)
 
     kept_root : IsTrue (has_root m c)
@@ -107,6 +109,12 @@ module _ (m : Model) (c : List Instance) (spelled : IsTrue (is_spelled m c)) whe
           | inr few ↦ le-leb _ _ few
         ])
 
+    kept_back : IsTrue (has_links_back m c)
+    kept_back = has_links_back_from m c (λ i x stands. built m c i x spelled stands) (λ i k x p links stands port there.
+        each_links_back m c i p links (λ id h j inverse link.
+        passes_unless (links_back m c id i j) (λ off. never (record { code = 12; instance = i; item = k }) (omega arith)
+        (not_linked_back refl p links id j (record { x = x; stands = stands; port = port; links_there = there }) inverse (contained_at links h j link) off))))
+
     kept_counts : IsTrue (has_counts m c)
     unfolding has_counts
     kept_counts = list_all_from (λ b. is_between b.low b.high (count_by (under m b.kind) c)) m.bounds (λ k n at.
@@ -125,6 +133,7 @@ module _ (m : Model) (c : List Instance) (spelled : IsTrue (is_spelled m c)) whe
       values = kept_values;
       links = kept_links;
       single_parts = kept_parts;
+      links_back = kept_back;
       counts = kept_counts;
     })
 
@@ -135,7 +144,7 @@ module _ (m : Model) (c : List Instance) (spelled : IsTrue (is_spelled m c)) whe
         let low = range_with_len_lt 1 (length c - 1) k j at in
         passes_unless (is_in_turn c j) (λ out. never (record { code = 8; instance = j; item = 0 }) (omega arith) (misnumbered refl refl high (omega arith) out)))
 
-  kept_rules : HasNoBreakBelow m c 11 → IsTrue (follows_rules m c)
+  kept_rules : HasNoBreakBelow m c 12 → IsTrue (follows_rules m c)
   unfolding follows_rules
   kept_rules none = list_all_from (λ r. list_all (λ e. not (under m r.kind e.1) || is_true_at m c e.0 r.holds) (enumerate_from 0 c)) m.rules (λ k r rule.
       list_all_from (λ e. not (under m r.kind e.1) || is_true_at m c e.0 r.holds) (enumerate_from 0 c) (λ i e at.
@@ -144,14 +153,14 @@ module _ (m : Model) (c : List Instance) (spelled : IsTrue (is_spelled m c)) whe
       passes_unless (not (under m r.kind e.1) || is_true_at m c e.0 r.holds) (λ wrong.
       let parts = unless_parts (under m r.kind e.1) (is_true_at m c e.0 r.holds) wrong in
       let b : Break = record { code = 10; instance = e.0; item = k } in
-      let least : 11 ≤ 10 = none b (false_rule refl e.1 r stands rule parts.0 parts.1) in
+      let least : 12 ≤ 11 = none b (false_rule refl e.1 r stands rule parts.0 parts.1) in
       absurd (omega arith))))
 
   -- a spelled configuration that breaks no test satisfies the model
-  pub satisfies_unbroken : HasNoBreakBelow m c 11 → IsTrue (satisfies m c)
+  pub satisfies_unbroken : HasNoBreakBelow m c 12 → IsTrue (satisfies m c)
   unfolding satisfies
   satisfies_unbroken none =
-      let below : HasNoBreakBelow m c 10 = λ b broken. omega (arith, none b broken) in
+      let below : HasNoBreakBelow m c 11 = λ b broken. omega (arith, none b broken) in
       and_from _ _ (and_from _ _ (shaped_unbroken below) (kept_numbers below)) (kept_rules none)
 
 -- ---- with a break
@@ -191,6 +200,9 @@ module _ (m : Model) (c : List Instance) (b : Break) where
           let at = slice_get_range_with_len 0 (length c) b.instance within ∙ ap Some (zero-add b.instance) in
           let few = leb-true _ _ (list_all_at (λ j. nat_le (count_by (λ k. k == j) (part_links m c)) (most_part_links j)) (instance_numbers c) tests.single_parts b.instance b.instance at) in
           absurd (omega arith)
+      by_test tests (not_linked_back is p links id j port inverse among off) =
+          let test = has_links_back_at m c tests.links_back b.instance b.item port.x p links port.stands port.port port.links_there in
+          clash (links_back m c id b.instance j) (links_back_each m c b.instance p links test id among.0 j inverse (at_contained links j among)) off
       by_test tests (misnumbered is item past within out) =
           let place : 1 + (b.instance - 1) ≡ b.instance = omega arith in
           let at = slice_get_range_with_len 1 (length c - 1) (b.instance - 1) (omega arith) ∙ ap Some place in

@@ -54,11 +54,6 @@ module _ (s t : Seen) (k : ℕ) (below : k < 256) where
         twice = λ j low. ap (λ set. is_member set j) same ∙ seen.twice j low ∙ twice_first (into j before) j k (none j) ∙ ap (nat_le 2) (sym (into_next j k before));
       }
 
--- ---- all links
-
-pub none_seen : (s : Seen) → ((j : ℕ) → is_member s.once j ≡ false) → ((j : ℕ) → is_member s.twice j ≡ false) → HasSeen s []
-none_seen s once twice = record { once = λ j low. once j; twice = λ j low. twice j }
-
 -- an instance is overfull where more part links lead to it than may
 pub overfull : (s : Seen) (links : List ℕ) (j : ℕ) → HasSeen s links → j < 256 → is_overfull s j ≡ nat_lt (most_part_links j) (into j links)
 overfull s links j seen low =

@@ -17,26 +17,6 @@ use Rattle.answer_check.proofs.Items.{Passes, finds_position, finds_same}
 use Rattle.answer_check.proofs.FewItems.{few_bounds}
 
 module _ (m : Model) (c : List Instance) where
-  pub none_too_many : length c ≤ m.instances → FindsPlace (BreaksAt m c 1) None
-  none_too_many few i k broken = let parts = too_many_parts m c 1 i k refl broken in omega arith
-
-  pub some_too_many : m.instances < length c → FindsPlace (BreaksAt m c 1) (Some (record { instance = m.instances; item = 0 }))
-  some_too_many many = record {
-    here = too_many refl refl refl many;
-    none_lower = λ i k low broken. let parts = too_many_parts m c 1 i k refl broken in omega arith;
-    none_before = λ k low broken. omega arith;
-  }
-
-  pub none_other_root : is_under m c m.root 0 ≡ true → FindsPlace (BreaksAt m c 2) None
-  none_other_root root i k broken = let parts = other_root_parts m c 2 i k refl broken in let other = parts.2 in absurd cc
-
-  pub some_other_root : is_under m c m.root 0 ≡ false → FindsPlace (BreaksAt m c 2) (Some (record { instance = 0; item = 0 }))
-  some_other_root other = record {
-    here = other_root refl refl refl other;
-    none_lower = λ i k low broken. omega arith;
-    none_before = λ k low broken. omega arith;
-  }
-
   abbrev pub is_bad : CountBound → Bool
   is_bad n = not (is_between n.low n.high (count_by (under m n.kind) c))
 

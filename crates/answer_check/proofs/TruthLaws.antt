@@ -104,10 +104,3 @@ module _ (m : Model) (c : List Instance) (p : ℕ) (among linked : InstanceSet)
           list_all_same (is_member others) (λ j. not (is_true_at m c j e)) (links_at_instance m c p i)
           (λ k j at. is j ∙ ap₂ (λ a b. a && not b) (link_member i here k j at) (found_member i here k j at))
           ∙ list_all_not (λ j. is_true_at m c j e) (links_at_instance m c p i))
-
--- ---- a set of one instance
-
--- whether the expression is true at the one instance is whether that is found
-pub found_alone : (passes : ℕ → Bool) (i : ℕ) (empty alone found : InstanceSet) → ((k : ℕ) → is_member empty k ≡ false)
-    → ((k : ℕ) → is_member alone k ≡ (is_member empty k || (k == i))) → ((k : ℕ) → is_member found k ≡ (is_member alone k && passes k)) → is_member found i ≡ passes i
-found_alone passes i empty alone found none one is = is i ∙ ap (λ b. b && passes i) (one i ∙ ap₂ (λ a b. a || b) (none i) (eq-eqb i i refl))

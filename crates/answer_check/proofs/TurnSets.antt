@@ -98,9 +98,6 @@ link_out_of_turn t u l within new mentioned comes same before has =
     first t u l within new mentioned
     (λ j. ap (λ s. is_member s j) same ∙ sym (or-false (is_member t.in_turn j)) ∙ ap (λ b. is_member t.in_turn j || b) (sym (and_right (j == l.to) _ comes))) before has
 
-pub none_read : (t : Turns) → ((j : ℕ) → is_member t.mentioned j ≡ false) → ((j : ℕ) → is_member t.in_turn j ≡ false) → HasTurns t []
-none_read t mentioned in_turn = record { mentioned = λ j low. mentioned j; in_turn = λ j low high. in_turn j }
-
 -- ---- what is out of turn
 
 module _ (m : Model) (c : List Instance) (t : Turns) (has : HasTurns t (all_links c)) (j : ℕ) (low : j < 256) (high : 1 ≤ j) where
@@ -116,6 +113,3 @@ module _ (m : Model) (c : List Instance) (t : Turns) (has : HasTurns t (all_link
 
 pub out_within : (m : Model) (c : List Instance) (i k : ℕ) → BreaksAt m c 8 i k → i < length c
 out_within m c i k broken = (misnumbered_parts m c 8 i k refl broken).2
-
-pub out_past : (m : Model) (c : List Instance) (i k : ℕ) → BreaksAt m c 8 i k → 1 ≤ i
-out_past m c i k broken = (misnumbered_parts m c 8 i k refl broken).1

@@ -1,5 +1,5 @@
 -- The tests that a configuration may break, and the first of them.
-use Rattle.std.specs.Prelude.{◌≡◌, ℕ, ℤ, ◌<◌, ◌≤◌, ◌==◌, IsTrue, IsFalse, List, [], ◌∷◌, length, Contains, count_by, if◌then◌else◌}
+use Rattle.std.specs.Prelude.{◌≡◌, ℕ, ℤ, ◌<◌, ◌≤◌, ◌==◌, IsTrue, IsFalse, List, [], ◌∷◌, length, Contains, Some, count_by, if◌then◌else◌}
 use Rattle.std.specs.Ordering.{nat_cmp, is_lt}
 use Rattle.std.specs.Cmp.Lexicographic.{slice_cmp}
 use Rattle.base_laws.specs.Places.{IsAt}
@@ -13,9 +13,9 @@ use Rattle.prod_model.specs.Limits.{is_between}
 use Rattle.prod_model.specs.Taxonomy.{attributes_at, ports_at}
 use Rattle.config_value.specs.declared.configuration.Instance.{Instance}
 use Rattle.config_value.specs.Value.{under, is_under, is_true_at}
-use Rattle.config_value.specs.Shaped.{has_value, part_links}
+use Rattle.config_value.specs.Shaped.{has_value, part_links, links_back}
 use Rattle.config_value.specs.Numbered.{is_in_turn}
-use Rattle.answer_check.specs.Codes.{too_many_code, other_root_code, bad_value_code, no_instance_code, off_target_code, bad_number_code, shared_part_code, misnumbered_code, bad_count_code, false_rule_code}
+use Rattle.answer_check.specs.Codes.{too_many_code, other_root_code, bad_value_code, no_instance_code, off_target_code, bad_number_code, shared_part_code, misnumbered_code, bad_count_code, false_rule_code, not_linked_back_code, turn_of}
 use Rattle.answer_check.specs.declared.verdict.Verdict.{Verdict}
 use Rattle.answer_check.specs.declared.verdict.Verdict.TheVariants.{Satisfied, Broken}
 
@@ -62,6 +62,10 @@ pub data Breaks (m : Model) (c : List Instance) (b : Break) : Type 0 where
   -- two or more part links lead to an instance, or one to instance 0
   shared_part : b.code ≡ shared_part_code → b.item ≡ 0 → b.instance < length c
       → most_part_links b.instance < count_by (λ j. j == b.instance) (part_links m c) → Breaks m c b
+  -- a linked instance doesn't link back by the port's inverse
+  not_linked_back : b.code ≡ not_linked_back_code → (p : PortAt) (links : List ℕ) (id j : ℕ)
+      → HasPort m c b p links → p.inverse ≡ Some id → Contains links j
+      → IsFalse (links_back m c id b.instance j) → Breaks m c b
   -- an instance from 1 on is not in turn
   misnumbered : b.code ≡ misnumbered_code → b.item ≡ 0 → 1 ≤ b.instance → b.instance < length c
       → IsFalse (is_in_turn c b.instance) → Breaks m c b
@@ -73,11 +77,11 @@ pub data Breaks (m : Model) (c : List Instance) (b : Break) : Type 0 where
       → IsAt m.rules b.item r → IsTrue (under m r.kind x)
       → IsFalse (is_true_at m c b.instance r.holds) → Breaks m c b
 
--- the code, the instance and the item
+-- the turn of the test, the instance and the item
 abbrev pub numbers_of : Break → List ℕ
-numbers_of b = b.code ∷ b.instance ∷ b.item ∷ []
+numbers_of b = turn_of b.code ∷ b.instance ∷ b.item ∷ []
 
--- by code, then by instance, then by item
+-- by the turn of the test, then by instance, then by item
 abbrev pub IsBreakBefore : Break → Break → Type 0
 IsBreakBefore b d = IsTrue (is_lt (slice_cmp nat_cmp (numbers_of b) (numbers_of d)))
 

@@ -1,5 +1,5 @@
--- The numbers of the tests that a configuration may break, in the order in which they are told.
-use Rattle.std.specs.Prelude.{ℕ}
+-- The numbers of the tests that a configuration may break, and the order in which they are told.
+use Rattle.std.specs.Prelude.{ℕ, suc, ◌==◌, nat_lt, if◌then◌else◌}
 
 -- there are more instances than the model allows
 abbrev pub too_many_code : ℕ
@@ -40,3 +40,14 @@ bad_count_code = 9
 -- a rule is false
 abbrev pub false_rule_code : ℕ
 false_rule_code = 10
+
+-- a linked instance doesn't link back by the port's inverse
+abbrev pub not_linked_back_code : ℕ
+not_linked_back_code = 12
+
+-- The turn of a test. The tests are told in the order of their numbers, but that of links back is
+-- told just before that of the numbering.
+abbrev pub turn_of : ℕ → ℕ
+turn_of code =
+    if code == not_linked_back_code then misnumbered_code
+    else if nat_lt code misnumbered_code then code else suc code

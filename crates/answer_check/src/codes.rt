@@ -1,4 +1,5 @@
-//! The numbers of the tests that a configuration may break, in the order in which they are told.
+//! The numbers of the tests that a configuration may break. They are told in the order of their
+//! numbers, but that of links back just before that of the numbering.
 
 /// There are more instances than the model allows.
 pub const TOO_MANY: u32 = 1;
@@ -29,3 +30,6 @@ pub const BAD_COUNT: u32 = 9;
 
 /// A rule is false.
 pub const FALSE_RULE: u32 = 10;
+
+/// A linked instance doesn't link back by the port's inverse.
+pub const NOT_LINKED_BACK: u32 = 12;

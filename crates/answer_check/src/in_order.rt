@@ -3,7 +3,7 @@ ghost use Rattle.std.specs.Prelude.{◌≡◌, ◌↔◌, IsTrue};
 ghost use Rattle.prod_model.specs.Valid.{IsValid};
 ghost use Rattle.config_value.specs.Satisfies.{satisfies};
 ghost use Rattle.config_value.specs.Spelled.{is_spelled};
-ghost use Rattle.answer_check.specs.Codes.{false_rule_code};
+ghost use Rattle.answer_check.specs.Codes.{false_rule_code, turn_of};
 ghost use Rattle.answer_check.specs.declared.verdict.Verdict.TheVariants.{Satisfied, Broken};
 ghost use Rattle.answer_check.specs.Breaks.{Tells};
 ghost use Rattle.answer_check.specs.steps.Finds.{FindsBreakBelow};
@@ -21,8 +21,8 @@ use config_value::Configuration;
 use prod_model::Problem;
 
 /// Whether the configuration satisfies the model, and else the first test that it breaks. The tests
-/// go in the order of their numbers, each in a pass or two over the instances or their links, and
-/// the rules come last, when the shape is known.
+/// go in the order in which they are told, each in a pass or two over the instances or their links,
+/// and the rules come last, when the shape is known.
 pub fn check(problem: &Problem, c: &Configuration) -> Verdict
     requires { IsTrue (is_spelled problem.now c.now) }
     ensures satisfied { (result ≡ Satisfied) ↔ IsTrue (satisfies problem.now c.now) }
@@ -43,7 +43,7 @@ pub fn check(problem: &Problem, c: &Configuration) -> Verdict
 fn broken_before_rules(problem: &Problem, c: &Configuration) -> Option<Verdict>
     requires valid { IsValid problem.now }
     requires spelled { IsTrue (is_spelled problem.now c.now) }
-    ensures { FindsBreakBelow problem.now c.now false_rule_code result }
+    ensures { FindsBreakBelow problem.now c.now (turn_of false_rule_code) result }
 {
     if let Some(place) = too_many(problem, c) {
         return Some(broken(codes::TOO_MANY, place));
@@ -65,6 +65,9 @@ fn broken_before_rules(problem: &Problem, c: &Configuration) -> Option<Verdict>
     }
     if let Some(place) = shared_part(problem, c) {
         return Some(broken(codes::SHARED_PART, place));
+    }
+    if let Some(place) = broken_port(problem, c, PortTest::LinksBack) {
+        return Some(broken(codes::NOT_LINKED_BACK, place));
     }
     if let Some(place) = out_of_turn(problem, c) {
         return Some(broken(codes::MISNUMBERED, place));

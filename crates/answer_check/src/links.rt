@@ -1,5 +1,5 @@
-//! Links that lead to no instance, links off their targets, and numbers of links that a port
-//! doesn't allow.
+//! Links that lead to no instance, links off their targets, numbers of links that a port doesn't
+//! allow, and links that are not linked back.
 ghost use Rattle.std.specs.Prelude.{◌≡◌, ◌<◌, ◌≤◌, length, slice_get, IsTrue, nat_le, not, position};
 ghost use Rattle.std.specs.List.{list_any, zip};
 ghost use Rattle.prod_model.specs.Taxonomy.{ports_at};
@@ -7,8 +7,10 @@ ghost use Rattle.prod_model.specs.Limits.{is_between};
 ghost use Rattle.prod_model.specs.Valid.{IsValid};
 ghost use Rattle.config_value.specs.Spelled.{is_spelled};
 ghost use Rattle.answer_check.specs.steps.Finds.{BreaksAt, FindsItem, FindsPlace};
-ghost use Rattle.answer_check.specs.steps.PortTests.{code_of, breaks_port, is_off};
+ghost use Rattle.answer_check.specs.steps.PortTests.{code_of, breaks_port, is_not_linked_back, is_off};
+ghost use Rattle.config_value.specs.Shaped.{links_back};
 
+use crate::instances::links_at;
 use crate::place::Place;
 use crate::types::{is_under, ports_of};
 use config_value::{Configuration, Instance};
@@ -23,9 +25,12 @@ pub(crate) enum PortTest {
     OnTarget,
     /// They are as many as the port allows.
     Number,
+    /// Where the port has an inverse, each linked instance links back by it.
+    LinksBack,
 }
 
-/// The first port whose links break a test. One pass over all links.
+/// The first port whose links break a test. One pass over all links; at links by a port with an
+/// inverse, one over the links back of each linked instance.
 pub(crate) fn broken_port(problem: &Problem, c: &Configuration, test: PortTest) -> Option<Place>
     requires valid { IsValid problem.now }
     requires spelled { IsTrue (is_spelled problem.now c.now) }
@@ -45,7 +50,7 @@ fn broken_port_of(problem: &Problem, c: &Configuration, test: PortTest, i: u32) 
     ensures { FindsItem (BreaksAt problem.now c.now (code_of test) i) result }
 {
     let instance = c.get(i);
-    let item = place_of_broken(problem, c, test, instance)?;
+    let item = place_of_broken(problem, c, test, i, instance)?;
     Some(item as u32)
 }
 
@@ -53,9 +58,10 @@ fn place_of_broken(
     problem: &Problem,
     c: &Configuration,
     test: PortTest,
+    i: u32,
     instance: &Instance,
 ) -> Option<usize>
-    ensures { result ≡ position (λ pair. breaks_port problem.now c.now test pair.0 pair.1)
+    ensures { result ≡ position (λ pair. breaks_port problem.now c.now test i pair.0 pair.1)
         (zip (ports_at problem.now instance.now.kind) instance.now.links) }
 {
     let ports = ports_of(problem, instance.kind);
@@ -63,6 +69,7 @@ fn place_of_broken(
         problem,
         c,
         test,
+        i,
         port,
         links.as_slice(),
     ))
@@ -72,15 +79,17 @@ fn breaks_port(
     problem: &Problem,
     c: &Configuration,
     test: PortTest,
+    i: u32,
     port: &PortAt,
     links: &[u32],
 ) -> bool
-    ensures { result ≡ breaks_port problem.now c.now test port.now links.now }
+    ensures { result ≡ breaks_port problem.now c.now test i port.now links.now }
 {
     match test {
         PortTest::Leads => leads_outside(c, links),
         PortTest::OnTarget => is_off_target(problem, c, port.target, links),
         PortTest::Number => !is_between(port.low, port.high, links.len()),
+        PortTest::LinksBack => is_not_linked_back(problem, c, i, port, links),
     }
 }
 
@@ -101,6 +110,35 @@ fn is_off(problem: &Problem, c: &Configuration, target: u32, j: u32) -> bool
     ensures { result ≡ is_off problem.now c.now target j }
 {
     (j as usize) < c.len() && !is_under(problem, c.get(j).kind, target)
+}
+
+fn is_not_linked_back(
+    problem: &Problem,
+    c: &Configuration,
+    i: u32,
+    port: &PortAt,
+    links: &[u32],
+) -> bool
+    ensures { result ≡ is_not_linked_back problem.now c.now i port.now links.now }
+{
+    match port.inverse {
+        Some(id) => has_unlinked(problem, c, id, i, links),
+        None => false,
+    }
+}
+
+/// Whether an instance among the links doesn't link `i` by a port of that id.
+fn has_unlinked(problem: &Problem, c: &Configuration, id: u32, i: u32, links: &[u32]) -> bool
+    ensures { result ≡ list_any (λ j. not (links_back problem.now c.now id i j)) links.now }
+{
+    links.iter().any(|j| !links_back(problem, c, id, i, *j))
+}
+
+/// Whether instance `j` has a port of that id, and links `i` by it.
+fn links_back(problem: &Problem, c: &Configuration, id: u32, i: u32, j: u32) -> bool
+    ensures { result ≡ links_back problem.now c.now id i j }
+{
+    links_at(problem, c, id, j).iter().any(|k| *k == i)
 }
 
 pub(crate) fn is_between(low: u32, high: u32, count: usize) -> bool

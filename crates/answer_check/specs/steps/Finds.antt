@@ -5,6 +5,7 @@ use Rattle.config_value.specs.declared.configuration.Instance.{Instance}
 use Rattle.answer_check.specs.declared.place.Place.{Place}
 use Rattle.answer_check.specs.declared.verdict.Verdict.{Verdict}
 use Rattle.answer_check.specs.declared.verdict.Verdict.TheVariants.{Satisfied}
+use Rattle.answer_check.specs.Codes.{turn_of}
 use Rattle.answer_check.specs.Breaks.{Break, Breaks, Tells}
 
 -- the test of this code is broken at this instance and item
@@ -28,11 +29,11 @@ abbrev pub FindsPlace : (ℕ → ℕ → Type 0) → Option Place → Type 0
 FindsPlace P None = (i k : ℕ) → P i k → ⊥
 FindsPlace P (Some place) = IsFirstPlace P place
 
--- no test of a code below this one is broken
+-- no test of a turn below this one is broken
 abbrev pub HasNoBreakBelow : Model → List Instance → ℕ → Type 0
-HasNoBreakBelow m c code = (b : Break) → Breaks m c b → code ≤ b.code
+HasNoBreakBelow m c turn = (b : Break) → Breaks m c b → turn ≤ turn_of b.code
 
--- The first break, and nothing where no test of a code below this one is broken.
+-- The first break, and nothing where no test of a turn below this one is broken.
 abbrev pub FindsBreakBelow : Model → List Instance → ℕ → Option Verdict → Type 0
-FindsBreakBelow m c code None = HasNoBreakBelow m c code
-FindsBreakBelow m c code (Some verdict) = (verdict ≡ Satisfied → ⊥) × Tells m c verdict
+FindsBreakBelow m c turn None = HasNoBreakBelow m c turn
+FindsBreakBelow m c turn (Some verdict) = (verdict ≡ Satisfied → ⊥) × Tells m c verdict

@@ -16,14 +16,14 @@ false_rule-requires-clause-shaped c = shaped_unbroken c.args.problem.now c.args.
 -- the rule that is false is the first break
 pub returns-in-Some-false_rule-clause-satisfied : goal.returns-in-Some-false_rule-clause-satisfied
 returns-in-Some-false_rule-clause-satisfied c =
-    let Finds : Verdict → Type 0 = λ v. FindsBreakBelow c.args.problem.now c.args.c.now 11 (Some v) in
-    let told = subst Finds (sym c.broken.ensures) (found_break c.args.problem.now c.args.c.now 10 11 c.in-Some-false_rule.place c.in_default.ensures c.in-Some-false_rule.ensures) in
+    let Finds : Verdict → Type 0 = λ v. FindsBreakBelow c.args.problem.now c.args.c.now 12 (Some v) in
+    let told = subst Finds (sym c.broken.ensures) (found_break c.args.problem.now c.args.c.now 10 12 c.in-Some-false_rule.place c.in_default.ensures c.in-Some-false_rule.ensures) in
     (λ same. absurd (told.0 same), λ all. absurd (told_unsatisfied c.args.problem.now c.args.c.now c.broken.result told.0 told.1 all))
 
 pub returns-in-Some-false_rule-clause-broken : goal.returns-in-Some-false_rule-clause-broken
 returns-in-Some-false_rule-clause-broken c =
-    let Finds : Verdict → Type 0 = λ v. FindsBreakBelow c.args.problem.now c.args.c.now 11 (Some v) in
-    (subst Finds (sym c.broken.ensures) (found_break c.args.problem.now c.args.c.now 10 11 c.in-Some-false_rule.place c.in_default.ensures c.in-Some-false_rule.ensures)).1
+    let Finds : Verdict → Type 0 = λ v. FindsBreakBelow c.args.problem.now c.args.c.now 12 (Some v) in
+    (subst Finds (sym c.broken.ensures) (found_break c.args.problem.now c.args.c.now 10 12 c.in-Some-false_rule.place c.in_default.ensures c.in-Some-false_rule.ensures)).1
 
 pub returns-in-None-clause-satisfied : goal.returns-in-None-clause-satisfied
 returns-in-None-clause-satisfied c =
