@@ -1,6 +1,6 @@
 -- A plain order is valid for a valid plain model.
 use Rattle.std.proofs.Common.{◌≡◌, Bool, true, false, List, [], ◌∷◌, map, length, refl, sym, ap, ◌∙◌}
-use Rattle.std.specs.Prelude.{Option, Some, None, ◌&&◌, nat_le, codes}
+use Rattle.std.specs.Prelude.{Option, Some, None, ◌&&◌, ◌==◌, nat_le, codes}
 use Rattle.std.specs.Option.{option_map}
 use Rattle.std.specs.List.{list_all}
 use Rattle.std.proofs.lemmas.Option.{none-some, same_Some}
@@ -80,7 +80,7 @@ module _ (m : Model) (plain : is_plain m ≡ true) (valid : IsValid m) where
       let requests = found_then (list_at (codes "requests") d) _ o format.then_ in
       let criteria = found_then (list_at (codes "criteria") d >>= all_of (plain_criterion (attributes_declared m))) _ o requests.then_ in
       let listed = found_then (list_at (codes "criteria") d) (all_of (plain_criterion (attributes_declared m))) criteria.value criteria.found in
-      let begins = same_text format.value (codes "order 1") && nat_le (length requests.value) 0 in
+      let begins = same_text format.value (codes "order 1") && (length requests.value == 0) in
       let few = nat_le (length criteria.value) Limits.most_criteria in
       let distinct = is_distinct (map (λ r. r.name) criteria.value) in
       let tests = provided_test (begins && few && distinct) _ o criteria.then_ in

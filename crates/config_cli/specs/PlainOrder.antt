@@ -1,6 +1,6 @@
 -- Which plain order the value of a file stands for: one without requests, whose criteria are
 -- numbers or attributes.
-use Rattle.std.specs.Prelude.{Bool, true, false, ◌&&◌, nat_le, List, [], ◌∷◌, map, length, slice_get, Some, None, codes}
+use Rattle.std.specs.Prelude.{Bool, true, false, ◌&&◌, ◌==◌, nat_le, List, [], ◌∷◌, map, length, slice_get, Some, None, codes}
 use Rattle.std.specs.declared.option.Option.{Option}
 use Rattle.std.specs.Option.{option_map, option_map_or}
 use Rattle.serde_json.specs.Data.{Data}
@@ -44,7 +44,7 @@ plain_order attributes d = provided
       format ← text_at (codes "format") d
       requests ← list_at (codes "requests") d
       criteria ← list_at (codes "criteria") d >>= all_of (plain_criterion attributes)
-      provided (same_text format (codes "order 1") && nat_le (length requests) 0
+      provided (same_text format (codes "order 1") && (length requests == 0)
           && nat_le (length criteria) Limits.most_criteria
           && is_distinct (map (λ r. r.name) criteria))
           (Some (record { requests = []; criteria = criteria })))
