@@ -21,19 +21,13 @@ use Rattle.config_value.specs.Value.{under, is_true_at}
 use Rattle.config_value.specs.Shaped.{is_shaped, has_leaf_types, has_root, has_size, has_values, has_links, has_single_parts, has_counts, has_value, is_in}
 use Rattle.config_value.specs.Numbered.{Link, is_numbered, is_mentioned_lower, is_mentioned_before}
 use Rattle.config_value.specs.Satisfies.{follows_rules, satisfies}
+use Rattle.canonical_form.proofs.SpelledPaths.{length_pointwise}
 use Rattle.model_reader.specs.Plain.{is_range, is_plain_comparison}
 use Rattle.config_cli.specs.steps.Sides.{is_met, meets_rules}
 use Rattle.config_cli.specs.steps.Walk.{is_in_ranges, one_instance, IsChoice}
 use Rattle.config_cli.proofs.OneType.{one_type, IsPlainParts}
 use Rattle.config_cli.proofs.OneTypeAttributes.{made, length_made, attributes_at_one_type, ports_at_one_type, value_of_one_type}
 use Rattle.config_cli.proofs.SideLaws.{is_true_at_one_instance}
-
--- lists that are compared pair by pair are as long
-pub long : {A B : Type 0} (test : A → B → Bool) (xs : List A) (ys : List B) → IsTrue (pointwise test xs ys) → length ys ≡ length xs
-long test [] [] h = refl
-long test [] (y ∷ ys) h = absurd (true≢false (sym h))
-long test (x ∷ xs) [] h = absurd (true≢false (sym h))
-long test (x ∷ xs) (y ∷ ys) h = ap suc (long test xs ys (and_parts _ _ h).1)
 
 -- where each attribute has a range, its first words don't matter
 ranged : (m : Model) (id : ℕ) (ds : List AttrDecl) (values : List ℤ) → IsTrue (list_all (λ a. is_range a.domain) ds)
@@ -62,7 +56,7 @@ module _ (instances : ℕ) (name : List ℕ) (attributes : List AttrDecl) (rules
   unfolding is_shaped has_root has_size has_values has_links has_single_parts has_counts is_a ports_of
   shaped_one_instance values some h =
       and_from _ _ (and_from _ _ (and_from _ _ (and_from _ _ (and_from _ _ (and_from _ _
-      (leaf_type values (long _ _ _ h)) refl) (le-leb 1 instances some)) (and_from _ _ h refl)) refl) refl) refl
+      (leaf_type values (length_pointwise _ _ _ h)) refl) (le-leb 1 instances some)) (and_from _ _ h refl)) refl) refl) refl
 
   numbered_one_instance : (values : List ℤ) → IsTrue (is_numbered (one_instance values))
   unfolding is_numbered
@@ -188,7 +182,7 @@ module _ (instances : ℕ) (name : List ℕ) (attributes : List AttrDecl) (rules
 
     -- values in the ranges are as many as the attributes
     pub values_long : (values : List ℤ) → IsTrue (is_in_ranges (attributes_at m 0) values) → length values ≡ length attributes
-    values_long values h = long (λ (a : AttrAt) v. is_in a.domain [] v) (attributes_at m 0) values h
+    values_long values h = length_pointwise (λ (a : AttrAt) v. is_in a.domain [] v) (attributes_at m 0) values h
         ∙ ap length (attributes_at_one_type instances name attributes rules) ∙ length_made 0 attributes
 
     -- what the walk may choose satisfies the model

@@ -25,6 +25,7 @@ use Rattle.config_value.specs.Spelled.{is_spelled, is_spelled_value}
 use Rattle.config_value.specs.Satisfies.{IsCandidate, meets, meets_kept, all_kept}
 use Rattle.config_value.specs.Rank.{RanksBefore}
 use Rattle.config_value.specs.Preferred.{IsPreferred}
+use Rattle.canonical_form.proofs.SpelledPaths.{length_pointwise}
 use Rattle.model_reader.specs.Plain.{is_plain, is_plain_side}
 use Rattle.config_cli.specs.steps.Sides.{values_order}
 use Rattle.config_cli.specs.steps.BestFound.{Among}
@@ -32,7 +33,7 @@ use Rattle.config_cli.specs.steps.Walk.{is_in_ranges, one_instance, IsChoice, Fi
 use Rattle.config_cli.proofs.OneType.{IsPlainParts, one_type, one_type_of}
 use Rattle.config_cli.proofs.OneTypeAttributes.{made, attributes_at_one_type, value_of_one_type}
 use Rattle.config_cli.proofs.WalkLaws.{int_le_true, int_le_from, no_word}
-use Rattle.config_cli.proofs.OneInstanceLaws.{leaf_type, long, values_long, choice_satisfies, satisfied_choice}
+use Rattle.config_cli.proofs.OneInstanceLaws.{leaf_type, values_long, choice_satisfies, satisfied_choice}
 use Rattle.config_cli.proofs.OneInstanceRanks.{rank_order_one_instance}
 
 -- the first values found for the model and the order
@@ -135,7 +136,7 @@ module _ (instances : ℕ) (name : List ℕ) (attributes : List AttrDecl) (rules
           let among = in_ranges values c in
           let values_written = ap (λ entries. pointwise (is_spelled_value m) entries values) is
           ∙ spelled_values m 0 attributes values parts.ends (ap (λ (entries : List AttrAt). is_in_ranges entries values) (sym is) ∙ among) in
-          let of_leaf = leaf_type instances name attributes rules values (long _ _ _ among) in
+          let of_leaf = leaf_type instances name attributes rules values (length_pointwise _ _ _ among) in
           and_from _ _ (and_from _ _ refl of_leaf) (and_from _ _ (and_from _ _ values_written refl) refl)
 
 -- What the walk finds in a plain model is preferred and can be written, and where it finds nothing there is no candidate.
