@@ -1,4 +1,5 @@
 //! Worked models: verdicts on their answers, and values of expressions there.
+mod answers;
 mod expressions;
 mod formed;
 mod largest;

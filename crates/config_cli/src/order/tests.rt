@@ -2,7 +2,9 @@
 use super::read_order;
 use model_reader::{Refusal, read_model};
 use prod_model::{Criterion, Expr};
-use std::alloc::Global;
+use std::alloc::{AllocError, Global};
+use std::fmt::Write;
+use std::process::Abort;
 use std::test::Fail;
 
 const VAN: &str =
@@ -28,79 +30,93 @@ fn aim(criterion: &Criterion) -> Result<(bool, i64), &'static str> {
     }
 }
 
-#[test]
-fn reads_a_plain_order(rt: HostRuntime) -> Result<(), Fail> {
-    let text = r#"{"format": "order 1", "criteria": [
-        {"name": "heavy", "maximise": ["attr", "load"]},
-        {"name": "few", "minimise": ["attr", "seats"]},
-        {"name": "seven", "minimise": 7}
-    ]}"#;
-    let problem = read_model(rt.alloc(), VAN.as_bytes())?;
-    let order = read_order(rt.alloc(), &problem, text.as_bytes())?;
-    assert!(rt; order.requests.is_empty());
-    let criteria = order.criteria.as_slice();
-    assert_eq!(rt; criteria.len(), 3);
-    assert_eq!(rt; criteria[0].name.bytes(), b"heavy".as_slice());
-    assert_eq!(rt; aim(&criteria[0])?, (true, 1));
-    assert_eq!(rt; aim(&criteria[1])?, (false, 0));
-    assert_eq!(rt; aim(&criteria[2])?, (false, 7));
-    Ok(())
-}
+const PLAIN: &str = r#"{"format": "order 1", "criteria": [
+    {"name": "heavy", "maximise": ["attr", "load"]},
+    {"name": "few", "minimise": ["attr", "seats"]},
+    {"name": "seven", "minimise": 7}
+]}"#;
 
-#[test]
-fn reads_orders(rt: HostRuntime) -> Result<(), Fail> {
-    let cases = [
-        (r#"{"format": "order 1"}"#, 0),
-        (
-            r#"{"format": "order 1", "requests": [], "criteria": []}"#,
-            0,
-        ),
-        (r#"{"format": "order 1""#, 2),
-        ("[]", 90),
-        (r#"{"format": "order 2"}"#, 90),
-        (r#"{"format": "order 1", "model": "Van"}"#, 90),
-        (
-            r#"{"format": "order 1", "requests": [{"name": "r", "holds": ["<", 1, 2]}]}"#,
-            90,
-        ),
-        (r#"{"format": "order 1", "criteria": [{"name": "c"}]}"#, 90),
-        (
-            r#"{"format": "order 1", "criteria": [{"name": "c", "minimise": 1, "maximise": 1}]}"#,
-            90,
-        ),
-        (
-            r#"{"format": "order 1", "criteria": [{"name": "c", "minimise": 1.0}]}"#,
-            90,
-        ),
-        (
-            r#"{"format": "order 1", "criteria": [{"name": "c", "minimise": ["attr", "width"]}]}"#,
-            90,
-        ),
-        (
-            r#"{"format": "order 1", "criteria": [
-                {"name": "c", "minimise": 1}, {"name": "c", "minimise": 2}]}"#,
-            90,
-        ),
-    ];
-    for (text, code) in cases {
-        assert_eq!(rt; fault_of(rt.alloc(), text.as_bytes())?, code, "in {text}");
+/// Its criteria.
+const WANTED: [(&str, bool, i64); 3] = [("heavy", true, 1), ("few", false, 0), ("seven", false, 7)];
+
+fn check_criteria(rt: &impl Abort, criteria: &[Criterion]) -> Result<(), &'static str> {
+    assert_eq!(rt; criteria.len(), WANTED.len());
+    for (criterion, (name, maximise, value)) in criteria.iter().zip(&WANTED) {
+        assert_eq!(rt; criterion.name.bytes(), name.as_bytes());
+        assert_eq!(rt; aim(criterion)?, (*maximise, *value), "{name}");
     }
     Ok(())
 }
 
 #[test]
+fn reads_a_plain_order(rt: HostRuntime) -> Result<(), Fail> {
+    let problem = read_model(rt.alloc(), VAN.as_bytes())?;
+    let order = read_order(rt.alloc(), &problem, PLAIN.as_bytes())?;
+    assert!(rt; order.requests.is_empty());
+    check_criteria(&rt, order.criteria.as_slice())?;
+    Ok(())
+}
+
+/// Texts of orders, and the fault of each.
+const CASES: [(&str, u32); 12] = [
+    (r#"{"format": "order 1"}"#, 0),
+    (
+        r#"{"format": "order 1", "requests": [], "criteria": []}"#,
+        0,
+    ),
+    (r#"{"format": "order 1""#, 2),
+    ("[]", 90),
+    (r#"{"format": "order 2"}"#, 90),
+    (r#"{"format": "order 1", "model": "Van"}"#, 90),
+    (
+        r#"{"format": "order 1", "requests": [{"name": "r", "holds": ["<", 1, 2]}]}"#,
+        90,
+    ),
+    (r#"{"format": "order 1", "criteria": [{"name": "c"}]}"#, 90),
+    (
+        r#"{"format": "order 1", "criteria": [{"name": "c", "minimise": 1, "maximise": 1}]}"#,
+        90,
+    ),
+    (
+        r#"{"format": "order 1", "criteria": [{"name": "c", "minimise": 1.0}]}"#,
+        90,
+    ),
+    (
+        r#"{"format": "order 1", "criteria": [{"name": "c", "minimise": ["attr", "width"]}]}"#,
+        90,
+    ),
+    (
+        r#"{"format": "order 1", "criteria": [
+            {"name": "c", "minimise": 1}, {"name": "c", "minimise": 2}]}"#,
+        90,
+    ),
+];
+
+#[test]
+fn reads_orders(rt: HostRuntime) -> Result<(), Fail> {
+    for (text, code) in &CASES {
+        assert_eq!(rt; fault_of(rt.alloc(), text.as_bytes())?, *code, "in {text}");
+    }
+    Ok(())
+}
+
+/// An order of so many criteria.
+fn order_of(alloc: Global, count: u32) -> Result<String, AllocError> {
+    let mut text = String::from_str(
+        alloc,
+        r#"{"format": "order 1", "criteria": [{"name": "c", "minimise": 0}"#,
+    )?;
+    for n in 1..count {
+        write!(text, r#", {{"name": "c{n}", "minimise": {n}}}"#)?;
+    }
+    text.push_str("]}")?;
+    Ok(text)
+}
+
+#[test]
 fn counts_criteria(rt: HostRuntime) -> Result<(), Fail> {
     for (count, code) in [(8, 0), (9, 90)] {
-        let mut text =
-            "{\"format\": \"order 1\", \"criteria\": [{\"name\": \"c\", \"minimise\": 0}".to_string(
-                rt.alloc(),
-            )?;
-        for n in 1..count {
-            text.push_str(format!(in rt.alloc();
-                ", {{\"name\": \"c{n}\", \"minimise\": {n}}}"
-            )?.as_str())?;
-        }
-        text.push_str("]}")?;
+        let text = order_of(rt.alloc(), count)?;
         assert_eq!(rt; fault_of(rt.alloc(), text.as_bytes())?, code, "at {count}");
     }
     Ok(())

@@ -5,6 +5,7 @@ use super::run_alone;
 use crate::status::Status;
 use cfg_io::{MemoryShelf, MemorySink, ReadError, Shelf, Sink, WriteError};
 use std::alloc::{AllocError, Global};
+use std::process::Abort;
 use std::test::Fail;
 
 const BOX: &str = "{\"format\":\"product-model 1\",\"root\":\"Box\",\"instances\":1,\
@@ -63,179 +64,192 @@ fn file_of(alloc: Global, name: &str, text: &str) -> Result<(String, Vec<u8>), A
     ))
 }
 
-fn left_by(alloc: Global, line: &str, row: &Row) -> Result<Left, AllocError> {
-    let words = words_of(alloc, line)?;
+/// The files of a row.
+fn files_of(alloc: Global, row: &Row) -> Result<Vec<(String, Vec<u8>)>, AllocError> {
     let mut files = Vec::new(alloc);
     files.push(file_of(alloc, "model", row.model)?)?;
     files.push(file_of(alloc, "order", row.order)?)?;
-    let mut failing_reads = Vec::new(alloc);
-    if let Some(call) = row.failing_read {
-        failing_reads.push(call)?;
+    Ok(files)
+}
+
+/// A list of what there is.
+fn list_of<T: Drop>(alloc: Global, only: Option<T>) -> Result<Vec<T>, AllocError> {
+    let mut list = Vec::new(alloc);
+    if let Some(only) = only {
+        list.push(only)?;
     }
-    let mut failing_writes = Vec::new(alloc);
-    if let Some(stop) = row.failing_write {
-        failing_writes.push(stop)?;
-    }
-    let mut shelf = MemoryShelf::new(alloc, files, failing_reads);
-    let mut out = MemorySink::new(alloc, failing_writes);
+    Ok(list)
+}
+
+fn shelf_of(alloc: Global, row: &Row) -> Result<MemoryShelf, AllocError> {
+    let files = files_of(alloc, row)?;
+    Ok(MemoryShelf::new(alloc, files, list_of(alloc, row.failing_read)?))
+}
+
+fn left_by(alloc: Global, line: &str, row: &Row) -> Result<Left, AllocError> {
+    let words = words_of(alloc, line)?;
+    let mut shelf = shelf_of(alloc, row)?;
+    let mut out = MemorySink::new(alloc, list_of(alloc, row.failing_write)?);
     let status = run_alone(alloc, &words, &mut shelf, &mut out);
     let written = Vec::from_slice(alloc, out.written())?;
     Ok(Left { status, written })
 }
 
-#[test]
-fn leaves_what_the_files_result_in(rt: HostRuntime) -> Result<(), Fail> {
-    let rows = [
-        Row {
-            shows: "a product of one type without attributes is its root alone",
-            model: BOX,
-            order: NO_CRITERIA,
-            failing_read: None,
-            failing_write: None,
-            status: Status::Preferred,
-            written: "preferred\n0 Box\n",
-        },
-        Row {
-            shows: "a model that breaks off is refused",
-            model: CUT_SHORT,
-            order: NO_CRITERIA,
-            failing_read: None,
-            failing_write: None,
-            status: Status::Refused,
-            written: "refused model F02 /\n",
-        },
-        Row {
-            shows: "an order with another format is refused",
-            model: BOX,
-            order: "{\"format\":\"order 2\"}",
-            failing_read: None,
-            failing_write: None,
-            status: Status::Refused,
-            written: "refused order F90 /\n",
-        },
-        Row {
-            shows: "a rule that never holds leaves the empty conflict",
-            model: TOO_WIDE_BOX,
-            order: NO_CRITERIA,
-            failing_read: None,
-            failing_write: None,
-            status: Status::Conflict,
-            written: "conflict 0\n",
-        },
-        Row {
-            shows: "a maximised criterion takes the greatest value",
-            model: WIDE_BOX,
-            order: WIDEST,
-            failing_read: None,
-            failing_write: None,
-            status: Status::Preferred,
-            written: "preferred\n0 Box width=3\n",
-        },
-        Row {
-            shows: "the first read fails",
-            model: BOX,
-            order: NO_CRITERIA,
-            failing_read: Some(0),
-            failing_write: None,
-            status: Status::ReadFailed,
-            written: "",
-        },
-        Row {
-            shows: "the second read fails",
-            model: BOX,
-            order: NO_CRITERIA,
-            failing_read: Some(1),
-            failing_write: None,
-            status: Status::ReadFailed,
-            written: "",
-        },
-        Row {
-            shows: "reads come before faults",
-            model: CUT_SHORT,
-            order: NO_CRITERIA,
-            failing_read: Some(1),
-            failing_write: None,
-            status: Status::ReadFailed,
-            written: "",
-        },
-        Row {
-            shows: "the write fails after the header",
-            model: BOX,
-            order: NO_CRITERIA,
-            failing_read: None,
-            failing_write: Some((0, 10)),
-            status: Status::WriteFailed,
-            written: "preferred\n",
-        },
-        Row {
-            shows: "the write fails at once",
-            model: BOX,
-            order: NO_CRITERIA,
-            failing_read: None,
-            failing_write: Some((0, 0)),
-            status: Status::WriteFailed,
-            written: "",
-        },
-        Row {
-            shows: "the write fails after a byte",
-            model: BOX,
-            order: NO_CRITERIA,
-            failing_read: None,
-            failing_write: Some((0, 1)),
-            status: Status::WriteFailed,
-            written: "p",
-        },
-        Row {
-            shows: "the write fails after the whole text",
-            model: BOX,
-            order: NO_CRITERIA,
-            failing_read: None,
-            failing_write: Some((0, 16)),
-            status: Status::WriteFailed,
-            written: "preferred\n0 Box\n",
-        },
-    ];
-    for row in &rows {
-        let left = left_by(rt.alloc(), "configure model order", row)?;
-        assert_eq!(rt; left.status, row.status.number(), "{}", row.shows);
-        assert_eq!(rt;
-            left.written.as_slice(),
-            row.written.as_bytes(),
-            "{}",
-            row.shows
-        );
-    }
-    Ok(())
-}
-
-#[test]
-fn takes_no_other_words(rt: HostRuntime) -> Result<(), Fail> {
-    let row = Row {
-        shows: "other words give the usage line",
+const ROWS: [Row; 12] = [
+    Row {
+        shows: "a product of one type without attributes is its root alone",
         model: BOX,
         order: NO_CRITERIA,
         failing_read: None,
         failing_write: None,
-        status: Status::Usage,
-        written: USAGE,
-    };
-    let others = [
-        "",
-        "configure",
-        "configure model",
-        "build model order",
-        "configure model order order",
-        "configure model order --workers 04",
-    ];
-    for line in others {
-        let left = left_by(rt.alloc(), line, &row)?;
-        assert_eq!(rt; left.status, row.status.number(), "{line}");
-        assert_eq!(rt;
-            left.written.as_slice(),
-            row.written.as_bytes(),
-            "{}",
-            row.shows
-        );
+        status: Status::Preferred,
+        written: "preferred\n0 Box\n",
+    },
+    Row {
+        shows: "a model that breaks off is refused",
+        model: CUT_SHORT,
+        order: NO_CRITERIA,
+        failing_read: None,
+        failing_write: None,
+        status: Status::Refused,
+        written: "refused model F02 /\n",
+    },
+    Row {
+        shows: "an order with another format is refused",
+        model: BOX,
+        order: "{\"format\":\"order 2\"}",
+        failing_read: None,
+        failing_write: None,
+        status: Status::Refused,
+        written: "refused order F90 /\n",
+    },
+    Row {
+        shows: "a rule that never holds leaves the empty conflict",
+        model: TOO_WIDE_BOX,
+        order: NO_CRITERIA,
+        failing_read: None,
+        failing_write: None,
+        status: Status::Conflict,
+        written: "conflict 0\n",
+    },
+    Row {
+        shows: "a maximised criterion takes the greatest value",
+        model: WIDE_BOX,
+        order: WIDEST,
+        failing_read: None,
+        failing_write: None,
+        status: Status::Preferred,
+        written: "preferred\n0 Box width=3\n",
+    },
+    Row {
+        shows: "the first read fails",
+        model: BOX,
+        order: NO_CRITERIA,
+        failing_read: Some(0),
+        failing_write: None,
+        status: Status::ReadFailed,
+        written: "",
+    },
+    Row {
+        shows: "the second read fails",
+        model: BOX,
+        order: NO_CRITERIA,
+        failing_read: Some(1),
+        failing_write: None,
+        status: Status::ReadFailed,
+        written: "",
+    },
+    Row {
+        shows: "reads come before faults",
+        model: CUT_SHORT,
+        order: NO_CRITERIA,
+        failing_read: Some(1),
+        failing_write: None,
+        status: Status::ReadFailed,
+        written: "",
+    },
+    Row {
+        shows: "the write fails after the header",
+        model: BOX,
+        order: NO_CRITERIA,
+        failing_read: None,
+        failing_write: Some((0, 10)),
+        status: Status::WriteFailed,
+        written: "preferred\n",
+    },
+    Row {
+        shows: "the write fails at once",
+        model: BOX,
+        order: NO_CRITERIA,
+        failing_read: None,
+        failing_write: Some((0, 0)),
+        status: Status::WriteFailed,
+        written: "",
+    },
+    Row {
+        shows: "the write fails after a byte",
+        model: BOX,
+        order: NO_CRITERIA,
+        failing_read: None,
+        failing_write: Some((0, 1)),
+        status: Status::WriteFailed,
+        written: "p",
+    },
+    Row {
+        shows: "the write fails after the whole text",
+        model: BOX,
+        order: NO_CRITERIA,
+        failing_read: None,
+        failing_write: Some((0, 16)),
+        status: Status::WriteFailed,
+        written: "preferred\n0 Box\n",
+    },
+];
+
+/// The run leaves what the row says.
+fn check_row(rt: &impl Abort, alloc: Global, line: &str, row: &Row) -> Result<(), AllocError> {
+    let left = left_by(alloc, line, row)?;
+    assert_eq!(rt; left.status, row.status.number(), "{line}: {}", row.shows);
+    assert_eq!(rt;
+        left.written.as_slice(),
+        row.written.as_bytes(),
+        "{line}: {}",
+        row.shows
+    );
+    Ok(())
+}
+
+#[test]
+fn leaves_what_the_files_result_in(rt: HostRuntime) -> Result<(), Fail> {
+    for row in &ROWS {
+        check_row(&rt, rt.alloc(), "configure model order", row)?;
+    }
+    Ok(())
+}
+
+const USED_WRONGLY: Row = Row {
+    shows: "other words give the usage line",
+    model: BOX,
+    order: NO_CRITERIA,
+    failing_read: None,
+    failing_write: None,
+    status: Status::Usage,
+    written: USAGE,
+};
+
+const OTHER_WORDS: [&str; 6] = [
+    "",
+    "configure",
+    "configure model",
+    "build model order",
+    "configure model order order",
+    "configure model order --workers 04",
+];
+
+#[test]
+fn takes_no_other_words(rt: HostRuntime) -> Result<(), Fail> {
+    for line in &OTHER_WORDS {
+        check_row(&rt, rt.alloc(), line, &USED_WRONGLY)?;
     }
     Ok(())
 }

@@ -59,97 +59,110 @@ type Case<'a> = (
     Option<&'a [i64]>,
 );
 
+/// What is found of a case.
+fn found(alloc: Global, case: &Case<'_>) -> Result<Option<Vec<i64>>, AllocError> {
+    let (_, ranges, rows, wanted, _) = case;
+    let attributes = attributes(alloc, ranges)?;
+    let rules = rules(alloc, rows)?;
+    let criteria = criteria(alloc, wanted)?;
+    first_values(
+        alloc,
+        rules.as_slice(),
+        criteria.as_slice(),
+        attributes.as_slice(),
+    )
+}
+
 fn check_each(rt: &impl Abort, alloc: Global, cases: &[Case<'_>]) -> Result<(), AllocError> {
-    for (name, ranges, rows, wanted, first) in cases {
-        let attributes = attributes(alloc, ranges)?;
-        let rules = rules(alloc, rows)?;
-        let criteria = criteria(alloc, wanted)?;
-        let found = first_values(
-            alloc,
-            rules.as_slice(),
-            criteria.as_slice(),
-            attributes.as_slice(),
-        )?;
-        assert_eq!(rt; found.as_deref(), *first, "{name}");
+    for case in cases {
+        assert_eq!(rt; found(alloc, case)?.as_deref(), case.4, "{}", case.0);
     }
     Ok(())
 }
 
+const BY_CRITERIA: [Case<'static>; 4] = [
+    ("no attributes", &[], &[], &[], Some(&[])),
+    ("no criteria", &[(-2, 3), (4, 9)], &[], &[], Some(&[-2, 4])),
+    (
+        "the least",
+        &[(0, 3), (-1, 3)],
+        &[],
+        &[(false, 1)],
+        Some(&[0, -1]),
+    ),
+    (
+        "the greatest",
+        &[(0, 3), (-1, 3)],
+        &[],
+        &[(true, 0)],
+        Some(&[3, -1]),
+    ),
+];
+
 #[test]
 fn finds_the_first_values_by_the_criteria(rt: HostRuntime) -> Result<(), Fail> {
-    let cases: [Case<'_>; 4] = [
-        ("no attributes", &[], &[], &[], Some(&[])),
-        ("no criteria", &[(-2, 3), (4, 9)], &[], &[], Some(&[-2, 4])),
-        (
-            "the least",
-            &[(0, 3), (-1, 3)],
-            &[],
-            &[(false, 1)],
-            Some(&[0, -1]),
-        ),
-        (
-            "the greatest",
-            &[(0, 3), (-1, 3)],
-            &[],
-            &[(true, 0)],
-            Some(&[3, -1]),
-        ),
-    ];
-    check_each(&rt, rt.alloc(), &cases)?;
+    check_each(&rt, rt.alloc(), &BY_CRITERIA)?;
     Ok(())
 }
+
+const BY_RULES: [Case<'static>; 5] = [
+    (
+        "below another",
+        &[(0, 9), (0, 3)],
+        &[(Relation::Less, 0, 1)],
+        &[(true, 0)],
+        Some(&[2, 3]),
+    ),
+    (
+        "the second decides",
+        &[(0, 2), (0, 2)],
+        &[(Relation::Differs, 0, 1)],
+        &[(false, 0), (true, 1)],
+        Some(&[0, 2]),
+    ),
+    (
+        "a tie",
+        &[(0, 2), (0, 2), (5, 6)],
+        &[(Relation::Greater, 0, 1)],
+        &[(true, 2)],
+        Some(&[1, 0, 6]),
+    ),
+    (
+        "two rules",
+        &[(1, 4), (1, 4)],
+        &[(Relation::AtLeast, 0, 1), (Relation::Differs, 1, 0)],
+        &[(true, 1)],
+        Some(&[4, 3]),
+    ),
+    (
+        "none",
+        &[(0, 3), (4, 9)],
+        &[(Relation::Equal, 0, 1)],
+        &[],
+        None,
+    ),
+];
 
 #[test]
 fn finds_the_first_values_that_meet_the_rules(rt: HostRuntime) -> Result<(), Fail> {
-    let below: &[Row] = &[(Relation::Less, 0, 1)];
-    let differs: &[Row] = &[(Relation::Differs, 0, 1)];
-    let above: &[Row] = &[(Relation::Greater, 0, 1)];
-    let both: &[Row] = &[(Relation::AtLeast, 0, 1), (Relation::Differs, 1, 0)];
-    let equal: &[Row] = &[(Relation::Equal, 0, 1)];
-    let second: &[(bool, u32)] = &[(false, 0), (true, 1)];
-    let cases: [Case<'_>; 5] = [
-        (
-            "below another",
-            &[(0, 9), (0, 3)],
-            below,
-            &[(true, 0)],
-            Some(&[2, 3]),
-        ),
-        (
-            "the second decides",
-            &[(0, 2), (0, 2)],
-            differs,
-            second,
-            Some(&[0, 2]),
-        ),
-        (
-            "a tie",
-            &[(0, 2), (0, 2), (5, 6)],
-            above,
-            &[(true, 2)],
-            Some(&[1, 0, 6]),
-        ),
-        (
-            "two rules",
-            &[(1, 4), (1, 4)],
-            both,
-            &[(true, 1)],
-            Some(&[4, 3]),
-        ),
-        ("none", &[(0, 3), (4, 9)], equal, &[], None),
-    ];
-    check_each(&rt, rt.alloc(), &cases)?;
+    check_each(&rt, rt.alloc(), &BY_RULES)?;
     Ok(())
 }
 
+/// Whether the values of the one come before those of the other, where the attribute is maximised
+/// or not.
+const ENDS: [(bool, i64, i64, bool); 3] = [
+    (true, i64::MAX, i64::MIN, true),
+    (true, i64::MIN, i64::MAX, false),
+    (false, i64::MIN, i64::MAX, true),
+];
+
 #[test]
 fn compares_the_ends_of_the_numbers(rt: HostRuntime) -> Result<(), Fail> {
-    let alloc = rt.alloc();
-    let greatest = criteria(alloc, &[(true, 0)])?;
-    let least = criteria(alloc, &[(false, 0)])?;
-    let (low, high) = ([i64::MIN], [i64::MAX]);
-    assert!(rt; come_before(greatest.as_slice(), &high, &low));
-    assert!(rt; !come_before(greatest.as_slice(), &low, &high));
-    assert!(rt; come_before(least.as_slice(), &low, &high));
+    for (maximise, first, second, want) in &ENDS {
+        let criteria = criteria(rt.alloc(), &[(*maximise, 0)])?;
+        let told = come_before(criteria.as_slice(), &[*first], &[*second]);
+        assert_eq!(rt; told, *want, "{maximise} {first} {second}");
+    }
     Ok(())
 }

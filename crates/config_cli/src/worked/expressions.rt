@@ -9,16 +9,19 @@ fn boxed(alloc: Global, e: Made) -> Result<Boxed<Expr>, AllocError> {
     Boxed::new(alloc, e?)
 }
 
+/// Both in boxes.
+fn pair(alloc: Global, a: Made, b: Made) -> Result<(Boxed<Expr>, Boxed<Expr>), AllocError> {
+    let a = boxed(alloc, a)?;
+    Ok((a, boxed(alloc, b)?))
+}
+
 fn two(alloc: Global, a: Made, b: Made) -> Result<Items<Expr>, AllocError> {
-    let mut both = Items::new(alloc);
-    both.push(a?)?;
-    both.push(b?)?;
-    Ok(both)
+    model_literals::two(alloc, a?, b?)
 }
 
 pub(super) fn compare(alloc: Global, relation: Relation, a: Made, b: Made) -> Made {
-    let a = boxed(alloc, a)?;
-    Ok(Expr::Cmp(relation, a, boxed(alloc, b)?))
+    let (a, b) = pair(alloc, a, b)?;
+    Ok(Expr::Cmp(relation, a, b))
 }
 
 pub(super) fn at_most(alloc: Global, a: Made, b: Made) -> Made {
@@ -34,8 +37,8 @@ pub(super) fn plus(alloc: Global, a: Made, b: Made) -> Made {
 }
 
 pub(super) fn minus(alloc: Global, a: Made, b: Made) -> Made {
-    let a = boxed(alloc, a)?;
-    Ok(Expr::Sub(a, boxed(alloc, b)?))
+    let (a, b) = pair(alloc, a, b)?;
+    Ok(Expr::Sub(a, b))
 }
 
 pub(super) fn times(alloc: Global, factor: i64, e: Made) -> Made {
@@ -55,8 +58,8 @@ pub(super) fn not(alloc: Global, e: Made) -> Made {
 }
 
 pub(super) fn if_then(alloc: Global, a: Made, b: Made) -> Made {
-    let a = boxed(alloc, a)?;
-    Ok(Expr::If(a, boxed(alloc, b)?))
+    let (a, b) = pair(alloc, a, b)?;
+    Ok(Expr::If(a, b))
 }
 
 pub(super) fn all(alloc: Global, port: u32, e: Made) -> Made {

@@ -1,145 +1,176 @@
 //! The models that the tests are about. Types and rules stand in the order of their numbers.
 use super::expressions::{at_least, at_most};
-use super::literals::{Values, kind_of, model, rule};
-use prod_model::{CountBound, Expr, Model, PortKind};
+use super::literals::{model, rule};
+use model_literals::{AttributeLiteral, port, range, type_literal, words};
+use prod_model::{CountBound, Expr, Model, PortKind, Rule};
 use std::alloc::{AllocError, Global};
+
+/// The model with one more bound.
+fn with_bound(model: Result<Model, AllocError>, bound: CountBound) -> Result<Model, AllocError> {
+    let mut model = model?;
+    model.bounds.push(bound)?;
+    Ok(model)
+}
+
+/// The model with one more rule.
+fn with_rule(
+    model: Result<Model, AllocError>,
+    rule: Result<Rule, AllocError>,
+) -> Result<Model, AllocError> {
+    let mut model = model?;
+    model.rules.push(rule?)?;
+    Ok(model)
+}
 
 /// One box of a width of 1 to 3.
 pub(super) fn boxes(alloc: Global) -> Result<Model, AllocError> {
-    let width = [(b"width".as_slice(), Values::Range(1, 3))];
-    model(alloc, 0, 1, &[kind_of(b"Box", None, &width, &[])])
+    let width = [range(b"width", 1, 3)];
+    model(alloc, 0, 1, &[type_literal(b"Box", None, &width, &[])])
 }
 
 /// A box of two colours, and one that has given up the first of them.
 pub(super) fn colours(alloc: Global) -> Result<Model, AllocError> {
-    let both = [(b"colour".as_slice(), Values::Words(&[b"red", b"blue"]))];
-    let blue = [(b"colour".as_slice(), Values::Words(&[b"blue"]))];
-    let kinds = [
-        kind_of(b"Box", None, &both, &[]),
-        kind_of(b"Blue", Some(0), &blue, &[]),
+    let both = [words(b"colour", &[b"red", b"blue"])];
+    let blue = [words(b"colour", &[b"blue"])];
+    let types = [
+        type_literal(b"Box", None, &both, &[]),
+        type_literal(b"Blue", Some(0), &blue, &[]),
     ];
-    model(alloc, 0, 1, &kinds)
+    model(alloc, 0, 1, &types)
 }
 
 /// A rack with two ports, each of which holds up to two cards, and three instances at most.
 pub(super) fn two_ports(alloc: Global) -> Result<Model, AllocError> {
     let ports = [
-        (b"left".as_slice(), PortKind::Part, 1, 0, 2),
-        (b"right".as_slice(), PortKind::Part, 1, 0, 2),
+        port(b"left", PortKind::Part, 1, 0, 2),
+        port(b"right", PortKind::Part, 1, 0, 2),
     ];
-    let kinds = [
-        kind_of(b"Rack", None, &[], &ports),
-        kind_of(b"Card", None, &[], &[]),
+    let types = [
+        type_literal(b"Rack", None, &[], &ports),
+        type_literal(b"Card", None, &[], &[]),
     ];
-    model(alloc, 0, 3, &kinds)
+    model(alloc, 0, 3, &types)
 }
 
 /// The same with exactly one card.
 pub(super) fn one_card(alloc: Global) -> Result<Model, AllocError> {
-    let mut model = two_ports(alloc)?;
-    model.bounds.push(CountBound {
+    let bound = CountBound {
         kind: 1,
         low: 1,
         high: 1,
-    })?;
-    Ok(model)
+    };
+    with_bound(two_ports(alloc), bound)
 }
 
 /// A rack of two cards, each of which uses one driver.
 pub(super) fn shared_drivers(alloc: Global) -> Result<Model, AllocError> {
-    let cards = [(b"cards".as_slice(), PortKind::Part, 1, 2, 2)];
-    let driver = [(b"driver".as_slice(), PortKind::Shared, 2, 1, 1)];
-    let kinds = [
-        kind_of(b"Rack", None, &[], &cards),
-        kind_of(b"Card", None, &[], &driver),
-        kind_of(b"Driver", None, &[], &[]),
+    let cards = [port(b"cards", PortKind::Part, 1, 2, 2)];
+    let driver = [port(b"driver", PortKind::Shared, 2, 1, 1)];
+    let types = [
+        type_literal(b"Rack", None, &[], &cards),
+        type_literal(b"Card", None, &[], &driver),
+        type_literal(b"Driver", None, &[], &[]),
     ];
-    model(alloc, 0, 5, &kinds)
+    model(alloc, 0, 5, &types)
 }
 
 /// Nodes, each of which links one node.
 pub(super) fn nodes(alloc: Global, link: PortKind) -> Result<Model, AllocError> {
-    let next = [(b"next".as_slice(), link, 0, 1, 1)];
-    model(alloc, 0, 3, &[kind_of(b"Node", None, &[], &next)])
+    let next = [port(b"next", link, 0, 1, 1)];
+    model(alloc, 0, 3, &[type_literal(b"Node", None, &[], &next)])
+}
+
+/// A rack of up to two cards of a power of 1 to 9.
+fn powered_cards(alloc: Global) -> Result<Model, AllocError> {
+    let cards = [port(b"cards", PortKind::Part, 1, 0, 2)];
+    let power = [range(b"power", 1, 9)];
+    let types = [
+        type_literal(b"Rack", None, &[], &cards),
+        type_literal(b"Card", None, &power, &[]),
+    ];
+    model(alloc, 0, 3, &types)
+}
+
+/// Cards have a power of at least 5.
+fn strong(alloc: Global) -> Result<Rule, AllocError> {
+    let holds = at_least(alloc, Ok(Expr::Attr(0)), Ok(Expr::Num(5)));
+    rule(alloc, b"strong", 1, holds)
+}
+
+/// Cards have a power of at most 7.
+fn weak(alloc: Global) -> Result<Rule, AllocError> {
+    let holds = at_most(alloc, Ok(Expr::Attr(0)), Ok(Expr::Num(7)));
+    rule(alloc, b"weak", 1, holds)
 }
 
 /// A rack of up to two cards, with two rules for cards: a power of at least 5, and then one of at
 /// most 7.
 pub(super) fn ruled_cards(alloc: Global) -> Result<Model, AllocError> {
-    let cards = [(b"cards".as_slice(), PortKind::Part, 1, 0, 2)];
-    let power = [(b"power".as_slice(), Values::Range(1, 9))];
-    let kinds = [
-        kind_of(b"Rack", None, &[], &cards),
-        kind_of(b"Card", None, &power, &[]),
+    with_rule(with_rule(powered_cards(alloc), strong(alloc)), weak(alloc))
+}
+
+/// Just one price and one power.
+fn worth(price: i64, power: i64) -> [AttributeLiteral<'static>; 2] {
+    [range(b"price", price, price), range(b"power", power, power)]
+}
+
+/// Racks of up to four small and big cards.
+fn priced_racks(alloc: Global) -> Result<Model, AllocError> {
+    let price = [range(b"price", 0, 100)];
+    let price_of_rack = [range(b"price", 50, 50)];
+    let cards = [port(b"cards", PortKind::Part, 2, 0, 4)];
+    let power = [range(b"power", 1, 20)];
+    let (small, big) = (worth(10, 5), worth(18, 12));
+    let types = [
+        type_literal(b"Item", None, &price, &[]),
+        type_literal(b"Rack", Some(0), &price_of_rack, &cards),
+        type_literal(b"Card", Some(0), &power, &[]),
+        type_literal(b"Small", Some(2), &small, &[]),
+        type_literal(b"Big", Some(2), &big, &[]),
     ];
-    let mut model = model(alloc, 0, 3, &kinds)?;
-    let strong = at_least(alloc, Ok(Expr::Attr(0)), Ok(Expr::Num(5)));
-    model.rules.push(rule(alloc, b"strong", 1, strong)?)?;
-    let weak = at_most(alloc, Ok(Expr::Attr(0)), Ok(Expr::Num(7)));
-    model.rules.push(rule(alloc, b"weak", 1, weak)?)?;
-    Ok(model)
+    model(alloc, 1, 5, &types)
+}
+
+/// The powers of the cards of a rack sum up to at most 30.
+fn load(alloc: Global) -> Result<Rule, AllocError> {
+    let holds = at_most(alloc, Ok(Expr::Sum(0, 1)), Ok(Expr::Num(30)));
+    rule(alloc, b"load", 1, holds)
 }
 
 /// Racks of up to four small and big cards, whose powers may sum up to 30.
 pub(super) fn racks(alloc: Global) -> Result<Model, AllocError> {
-    let price = [(b"price".as_slice(), Values::Range(0, 100))];
-    let of_rack = [(b"price".as_slice(), Values::Range(50, 50))];
-    let cards = [(b"cards".as_slice(), PortKind::Part, 2, 0, 4)];
-    let power = [(b"power".as_slice(), Values::Range(1, 20))];
-    let small = [
-        (b"price".as_slice(), Values::Range(10, 10)),
-        (b"power".as_slice(), Values::Range(5, 5)),
-    ];
-    let big = [
-        (b"price".as_slice(), Values::Range(18, 18)),
-        (b"power".as_slice(), Values::Range(12, 12)),
-    ];
-    let kinds = [
-        kind_of(b"Item", None, &price, &[]),
-        kind_of(b"Rack", Some(0), &of_rack, &cards),
-        kind_of(b"Card", Some(0), &power, &[]),
-        kind_of(b"Small", Some(2), &small, &[]),
-        kind_of(b"Big", Some(2), &big, &[]),
-    ];
-    let mut model = model(alloc, 1, 5, &kinds)?;
-    let load = at_most(alloc, Ok(Expr::Sum(0, 1)), Ok(Expr::Num(30)));
-    model.rules.push(rule(alloc, b"load", 1, load)?)?;
-    Ok(model)
+    with_rule(priced_racks(alloc), load(alloc))
 }
 
 /// The same with at most two cards.
 pub(super) fn few_cards(alloc: Global) -> Result<Model, AllocError> {
-    let mut model = racks(alloc)?;
-    model.bounds.push(CountBound {
+    let bound = CountBound {
         kind: 2,
         low: 0,
         high: 2,
-    })?;
-    Ok(model)
+    };
+    with_bound(racks(alloc), bound)
 }
 
 /// Racks of cards with a bus, and spare ones.
 pub(super) fn buses(alloc: Global) -> Result<Model, AllocError> {
     let ports = [
-        (b"cards".as_slice(), PortKind::Part, 2, 0, 3),
-        (b"spare".as_slice(), PortKind::Part, 2, 0, 3),
+        port(b"cards", PortKind::Part, 2, 0, 3),
+        port(b"spare", PortKind::Part, 2, 0, 3),
     ];
-    let attributes = [
-        (b"power".as_slice(), Values::Range(1, 9)),
-        (b"bus".as_slice(), Values::Words(&[b"sata", b"sas"])),
+    let card = [range(b"power", 1, 9), words(b"bus", &[b"sata", b"sas"])];
+    let types = [
+        type_literal(b"Item", None, &[], &[]),
+        type_literal(b"Rack", Some(0), &[], &ports),
+        type_literal(b"Card", Some(0), &card, &[]),
+        type_literal(b"Small", Some(2), &[], &[]),
+        type_literal(b"Big", Some(2), &[], &[]),
     ];
-    let kinds = [
-        kind_of(b"Item", None, &[], &[]),
-        kind_of(b"Rack", Some(0), &[], &ports),
-        kind_of(b"Card", Some(0), &attributes, &[]),
-        kind_of(b"Small", Some(2), &[], &[]),
-        kind_of(b"Big", Some(2), &[], &[]),
-    ];
-    model(alloc, 1, 4, &kinds)
+    model(alloc, 1, 4, &types)
 }
 
 /// Up to 64 nodes, each of which may link them all.
 pub(super) fn meshes(alloc: Global) -> Result<Model, AllocError> {
-    let next = [(b"next".as_slice(), PortKind::Shared, 0, 0, 64)];
-    model(alloc, 0, 64, &[kind_of(b"Node", None, &[], &next)])
+    let next = [port(b"next", PortKind::Shared, 0, 0, 64)];
+    model(alloc, 0, 64, &[type_literal(b"Node", None, &[], &next)])
 }

@@ -3,15 +3,17 @@
 ghost use Rattle.std.specs.Prelude.{◌≡◌, [], ◌∷◌, codes, IfOk, IsTrue};
 ghost use Rattle.config_value.specs.Shaped.{is_shaped};
 
+use super::answers::answer_of;
 use super::expressions::{Made, all, and, any, compare, if_then, minus, not, or, plus, times};
 use super::models::{buses, racks};
 use super::problems::{is_truth, problem_of};
 use answer_check::{Found, Verdict, check, meets, value_at};
-use canonical_form::read_answer;
 use config_value::Configuration;
 use expr_bounds::{bounds_of, is_formed};
+use model_literals::one;
 use prod_model::{Expr, Items, Name, Order, Problem, Relation, Request};
 use std::alloc::{AllocError, Global};
+use std::process::Abort;
 use std::test::Fail;
 use type_taxonomy::build;
 
@@ -25,7 +27,7 @@ const BUSES: &str =
 fn satisfying(alloc: Global, problem: &Problem, lines: &str) -> Result<Configuration, Fail>
     ensures { IfOk result (λ c. IsTrue (is_shaped problem.now c)) }
 {
-    let c = read_answer(alloc, problem, lines.as_bytes())?;
+    let c = answer_of(alloc, problem, lines)?;
     match check(problem, &c) {
         Verdict::Satisfied => Ok(c),
         broken => Err(Fail::from(broken)),
@@ -73,6 +75,14 @@ fn request_met(alloc: Global, problem: &Problem, c: &Configuration, e: Expr) -> 
     Ok(meets(problem, &order, 0, c))
 }
 
+/// A request.
+fn wish(alloc: Global, holds: Expr) -> Result<Request, AllocError>
+    ensures { IfOk result (λ r. r ≡ record { name = codes "wish"; holds = holds }) }
+{
+    let name = Name::from_bytes(alloc, b"wish")?;
+    Ok(Request { name, holds })
+}
+
 /// An order of one request.
 fn order_of(alloc: Global, holds: Expr) -> Result<Order, AllocError>
     ensures { IfOk result (λ o. o ≡ record {
@@ -80,37 +90,11 @@ fn order_of(alloc: Global, holds: Expr) -> Result<Order, AllocError>
       criteria = [];
     }) }
 {
-    let mut requests = Items::new(alloc);
-    requests.push(Request {
-        name: Name::from_bytes(alloc, b"wish")?,
-        holds,
-    })?;
+    let requests = one(alloc, wish(alloc, holds)?)?;
     Ok(Order {
         requests,
         criteria: Items::new(alloc),
     })
-}
-
-/// Whether an expression at a type is true at an instance. Where that is the root product, a
-/// request of it is met alike.
-fn is_true(
-    alloc: Global,
-    problem: &Problem,
-    c: &Configuration,
-    i: u32,
-    at: u32,
-    made: Made,
-) -> Result<bool, Fail>
-    requires shaped { IsTrue (is_shaped problem.now c.now) }
-{
-    let e = made?;
-    let Found::Truth(truth) = value(alloc, problem, c, i, at, &e)? else {
-        return Err(Fail::from("a number"));
-    };
-    if i == 0 && request_met(alloc, problem, c, e)? != truth {
-        return Err(Fail::from("the request is met otherwise"));
-    }
-    Ok(truth)
 }
 
 /// The forms of a number.
@@ -157,48 +141,50 @@ const NUMBERS: [(Number, i64); 10] = [
     (Number::Times, -3),
 ];
 
+/// A number of that form is the one that is wanted at the rack.
+fn check_number(
+    rt: &impl Abort,
+    alloc: Global,
+    problem: &Problem,
+    c: &Configuration,
+    form: Number,
+    want: i64,
+) -> Result<(), Fail>
+    requires shaped { IsTrue (is_shaped problem.now c.now) }
+{
+    let e = make_number(alloc, form)?;
+    let found = value(alloc, problem, c, 0, 1, &e)?;
+    assert_eq!(rt; found, Found::Number(want), "{form:?}");
+    Ok(())
+}
+
+fn check_each_number(
+    rt: &impl Abort,
+    alloc: Global,
+    problem: &Problem,
+    c: &Configuration,
+) -> Result<(), Fail>
+    requires shaped { IsTrue (is_shaped problem.now c.now) }
+{
+    for (form, want) in &NUMBERS {
+        check_number(rt, alloc, problem, c, *form, *want)?;
+    }
+    Ok(())
+}
+
+fn check_numbers(rt: &impl Abort, alloc: Global, problem: &Problem) -> Result<(), Fail> {
+    let c = satisfying(alloc, problem, RACK)?;
+    check_each_number(rt, alloc, problem, &c)
+}
+
 #[test]
 fn tells_numbers(rt: HostRuntime) -> Result<(), Fail> {
     let alloc = rt.alloc();
     let problem = problem_of(alloc, racks(alloc)?)?;
-    let c = satisfying(alloc, &problem, RACK)?;
-    for (form, want) in NUMBERS {
-        let found = value(alloc, &problem, &c, 0, 1, &make_number(alloc, form)?)?;
-        assert_eq!(rt; found, Found::Number(want), "{form:?}");
-    }
-    Ok(())
+    check_numbers(&rt, alloc, &problem)
 }
 
-/// How the sum of the powers of the cards, which is 7, stands to a number.
-const RELATIONS: [(Relation, i64, bool); 12] = [
-    (Relation::Less, 8, true),
-    (Relation::Less, 7, false),
-    (Relation::AtMost, 7, true),
-    (Relation::AtMost, 6, false),
-    (Relation::Equal, 7, true),
-    (Relation::Equal, 6, false),
-    (Relation::Differs, 6, true),
-    (Relation::Differs, 7, false),
-    (Relation::AtLeast, 7, true),
-    (Relation::AtLeast, 8, false),
-    (Relation::Greater, 6, true),
-    (Relation::Greater, 7, false),
-];
-
-#[test]
-fn compares_numbers(rt: HostRuntime) -> Result<(), Fail> {
-    let alloc = rt.alloc();
-    let problem = problem_of(alloc, buses(alloc)?)?;
-    let c = satisfying(alloc, &problem, BUSES)?;
-    for (relation, number, want) in RELATIONS {
-        let e = compare(alloc, relation, Ok(Expr::Sum(0, 0)), Ok(Expr::Num(number)));
-        let truth = is_true(alloc, &problem, &c, 0, 1, e)?;
-        assert_eq!(rt; truth, want, "{relation:?} {number}");
-    }
-    Ok(())
-}
-
-/// Truths that are joined from others.
+/// How truths are joined.
 #[derive(Clone, Copy, Debug)]
 enum Join {
     And,
@@ -207,50 +193,13 @@ enum Join {
     Not,
 }
 
-/// A join of whether an instance is under one type and whether it is under another.
-fn make_join(alloc: Global, form: Join, a: u32, b: u32) -> Made {
-    let (a, b) = (Ok(Expr::Kind(a)), Ok(Expr::Kind(b)));
-    match form {
-        Join::And => and(alloc, a, b),
-        Join::Or => or(alloc, a, b),
-        Join::If => if_then(alloc, a, b),
-        Join::Not => not(alloc, a),
-    }
-}
-
-/// The root product is under type 1, and not under type 2.
-const JOINS: [(Join, u32, u32, bool); 14] = [
-    (Join::And, 1, 1, true),
-    (Join::And, 1, 2, false),
-    (Join::And, 2, 1, false),
-    (Join::And, 2, 2, false),
-    (Join::Or, 1, 1, true),
-    (Join::Or, 1, 2, true),
-    (Join::Or, 2, 1, true),
-    (Join::Or, 2, 2, false),
-    (Join::If, 1, 1, true),
-    (Join::If, 1, 2, false),
-    (Join::If, 2, 1, true),
-    (Join::If, 2, 2, true),
-    (Join::Not, 1, 1, false),
-    (Join::Not, 2, 2, true),
-];
-
-#[test]
-fn joins_truths(rt: HostRuntime) -> Result<(), Fail> {
-    let alloc = rt.alloc();
-    let problem = problem_of(alloc, buses(alloc)?)?;
-    let c = satisfying(alloc, &problem, BUSES)?;
-    for (form, a, b, want) in JOINS {
-        let truth = is_true(alloc, &problem, &c, 0, 1, make_join(alloc, form, a, b))?;
-        assert_eq!(rt; truth, want, "{form:?} {a} {b}");
-    }
-    Ok(())
-}
-
 /// Truths about one instance alone, and about those that the rack links.
 #[derive(Clone, Copy, Debug)]
 enum Truth {
+    /// So the sum of the powers of the cards, which is 7, stands to the number.
+    Sum(Relation, i64),
+    /// So it is joined whether the instance is under one type and whether it is under another.
+    Joined(Join, u32, u32),
     /// It is under the type.
     Kind(u32),
     /// Its bus is the word of that value.
@@ -269,34 +218,154 @@ enum Truth {
     AnySpare(u32),
 }
 
+fn make_join(alloc: Global, form: Join, a: u32, b: u32) -> Made {
+    match form {
+        Join::And => and(alloc, Ok(Expr::Kind(a)), Ok(Expr::Kind(b))),
+        Join::Or => or(alloc, Ok(Expr::Kind(a)), Ok(Expr::Kind(b))),
+        Join::If => if_then(alloc, Ok(Expr::Kind(a)), Ok(Expr::Kind(b))),
+        Join::Not => not(alloc, Ok(Expr::Kind(a))),
+    }
+}
+
+fn has_power(alloc: Global, power: i64) -> Made {
+    compare(
+        alloc,
+        Relation::Equal,
+        Ok(Expr::Attr(0)),
+        Ok(Expr::Num(power)),
+    )
+}
+
 fn make_truth(alloc: Global, form: Truth) -> Made {
     match form {
+        Truth::Sum(relation, number) => {
+            compare(alloc, relation, Ok(Expr::Sum(0, 0)), Ok(Expr::Num(number)))
+        }
+        Truth::Joined(form, a, b) => make_join(alloc, form, a, b),
         Truth::Kind(kind) => Ok(Expr::Kind(kind)),
         Truth::Bus(word) => Ok(Expr::Is(1, word)),
         Truth::AllCards(kind) => all(alloc, 0, Ok(Expr::Kind(kind))),
         Truth::AnyCard(kind) => any(alloc, 0, Ok(Expr::Kind(kind))),
-        Truth::AnyPower(power) => any(
-            alloc,
-            0,
-            compare(
-                alloc,
-                Relation::Equal,
-                Ok(Expr::Attr(0)),
-                Ok(Expr::Num(power)),
-            ),
-        ),
-        Truth::AnySas(kind) => any(
-            alloc,
-            0,
-            and(alloc, Ok(Expr::Kind(kind)), Ok(Expr::Is(1, 1))),
-        ),
+        Truth::AnyPower(power) => any(alloc, 0, has_power(alloc, power)),
+        Truth::AnySas(kind) => {
+            let sas = and(alloc, Ok(Expr::Kind(kind)), Ok(Expr::Is(1, 1)));
+            any(alloc, 0, sas)
+        }
         Truth::AllSpare(kind) => all(alloc, 1, Ok(Expr::Kind(kind))),
         Truth::AnySpare(kind) => any(alloc, 1, Ok(Expr::Kind(kind))),
     }
 }
 
-/// Of an instance, at a type.
-const TRUTHS: [(u32, u32, Truth, bool); 18] = [
+/// An instance, a type, a truth at them, and whether it holds.
+type Row = (u32, u32, Truth, bool);
+
+/// Whether the truth of a row holds.
+fn is_true(alloc: Global, problem: &Problem, c: &Configuration, row: &Row) -> Result<bool, Fail>
+    requires shaped { IsTrue (is_shaped problem.now c.now) }
+{
+    let e = make_truth(alloc, row.2)?;
+    match value(alloc, problem, c, row.0, row.1, &e)? {
+        Found::Truth(truth) => Ok(truth),
+        other => Err(Fail::from(other)),
+    }
+}
+
+/// The truth of a row holds as is wanted. At the root product a request of it is met alike.
+fn check_truth(
+    rt: &impl Abort,
+    alloc: Global,
+    problem: &Problem,
+    c: &Configuration,
+    row: &Row,
+) -> Result<(), Fail>
+    requires shaped { IsTrue (is_shaped problem.now c.now) }
+{
+    assert_eq!(rt; is_true(alloc, problem, c, row)?, row.3, "{row:?}");
+    if row.0 == 0 {
+        let holds = make_truth(alloc, row.2)?;
+        assert_eq!(rt;
+            request_met(alloc, problem, c, holds)?,
+            row.3,
+            "request {row:?}"
+        );
+    }
+    Ok(())
+}
+
+fn check_each_truth(
+    rt: &impl Abort,
+    alloc: Global,
+    problem: &Problem,
+    c: &Configuration,
+    rows: &[Row],
+) -> Result<(), Fail>
+    requires shaped { IsTrue (is_shaped problem.now c.now) }
+{
+    for row in rows {
+        check_truth(rt, alloc, problem, c, row)?;
+    }
+    Ok(())
+}
+
+fn check_truths_of(
+    rt: &impl Abort,
+    alloc: Global,
+    problem: &Problem,
+    rows: &[Row],
+) -> Result<(), Fail> {
+    let c = satisfying(alloc, problem, BUSES)?;
+    check_each_truth(rt, alloc, problem, &c, rows)
+}
+
+fn check_truths(rt: &impl Abort, alloc: Global, rows: &[Row]) -> Result<(), Fail> {
+    let problem = problem_of(alloc, buses(alloc)?)?;
+    check_truths_of(rt, alloc, &problem, rows)
+}
+
+const RELATIONS: [Row; 12] = [
+    (0, 1, Truth::Sum(Relation::Less, 8), true),
+    (0, 1, Truth::Sum(Relation::Less, 7), false),
+    (0, 1, Truth::Sum(Relation::AtMost, 7), true),
+    (0, 1, Truth::Sum(Relation::AtMost, 6), false),
+    (0, 1, Truth::Sum(Relation::Equal, 7), true),
+    (0, 1, Truth::Sum(Relation::Equal, 6), false),
+    (0, 1, Truth::Sum(Relation::Differs, 6), true),
+    (0, 1, Truth::Sum(Relation::Differs, 7), false),
+    (0, 1, Truth::Sum(Relation::AtLeast, 7), true),
+    (0, 1, Truth::Sum(Relation::AtLeast, 8), false),
+    (0, 1, Truth::Sum(Relation::Greater, 6), true),
+    (0, 1, Truth::Sum(Relation::Greater, 7), false),
+];
+
+#[test]
+fn compares_numbers(rt: HostRuntime) -> Result<(), Fail> {
+    check_truths(&rt, rt.alloc(), &RELATIONS)
+}
+
+/// The root product is under type 1, and not under type 2.
+const JOINS: [Row; 14] = [
+    (0, 1, Truth::Joined(Join::And, 1, 1), true),
+    (0, 1, Truth::Joined(Join::And, 1, 2), false),
+    (0, 1, Truth::Joined(Join::And, 2, 1), false),
+    (0, 1, Truth::Joined(Join::And, 2, 2), false),
+    (0, 1, Truth::Joined(Join::Or, 1, 1), true),
+    (0, 1, Truth::Joined(Join::Or, 1, 2), true),
+    (0, 1, Truth::Joined(Join::Or, 2, 1), true),
+    (0, 1, Truth::Joined(Join::Or, 2, 2), false),
+    (0, 1, Truth::Joined(Join::If, 1, 1), true),
+    (0, 1, Truth::Joined(Join::If, 1, 2), false),
+    (0, 1, Truth::Joined(Join::If, 2, 1), true),
+    (0, 1, Truth::Joined(Join::If, 2, 2), true),
+    (0, 1, Truth::Joined(Join::Not, 1, 1), false),
+    (0, 1, Truth::Joined(Join::Not, 2, 2), true),
+];
+
+#[test]
+fn joins_truths(rt: HostRuntime) -> Result<(), Fail> {
+    check_truths(&rt, rt.alloc(), &JOINS)
+}
+
+const TRUTHS: [Row; 18] = [
     (0, 1, Truth::Kind(0), true),
     (0, 1, Truth::Kind(1), true),
     (0, 1, Truth::Kind(2), false),
@@ -319,12 +388,5 @@ const TRUTHS: [(u32, u32, Truth, bool); 18] = [
 
 #[test]
 fn tells_truths(rt: HostRuntime) -> Result<(), Fail> {
-    let alloc = rt.alloc();
-    let problem = problem_of(alloc, buses(alloc)?)?;
-    let c = satisfying(alloc, &problem, BUSES)?;
-    for (i, at, form, want) in TRUTHS {
-        let found = is_true(alloc, &problem, &c, i, at, make_truth(alloc, form))?;
-        assert_eq!(rt; found, want, "{i} {at} {form:?}");
-    }
-    Ok(())
+    check_truths(&rt, rt.alloc(), &TRUTHS)
 }

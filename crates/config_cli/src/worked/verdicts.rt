@@ -1,13 +1,14 @@
 //! Verdicts on answers, worked out by hand: each test broken alone, and pairs that show the order
 //! of the tests.
+use super::answers::answer_of;
 use super::models::{
     boxes, colours, few_cards, nodes, one_card, racks, ruled_cards, shared_drivers, two_ports,
 };
 use super::problems::problem_of;
 use answer_check::{Verdict, check};
-use canonical_form::read_answer;
-use prod_model::{Model, PortKind};
+use prod_model::{Model, PortKind, Problem};
 use std::alloc::{AllocError, Global};
+use std::process::Abort;
 use std::test::Fail;
 
 /// The model that an answer is checked against.
@@ -41,10 +42,43 @@ fn model_of(alloc: Global, of: Of) -> Result<Model, AllocError> {
 }
 
 /// The verdict on an answer whose lines these are.
+fn verdict_of(alloc: Global, problem: &Problem, lines: &str) -> Result<Verdict, Fail> {
+    let answer = answer_of(alloc, problem, lines)?;
+    Ok(check(problem, &answer))
+}
+
 fn verdict(alloc: Global, of: Of, lines: &str) -> Result<Verdict, Fail> {
     let problem = problem_of(alloc, model_of(alloc, of)?)?;
-    let answer = read_answer(alloc, &problem, lines.as_bytes())?;
-    Ok(check(&problem, &answer))
+    verdict_of(alloc, &problem, lines)
+}
+
+/// The answer has the verdict that is wanted.
+fn check_verdict(
+    rt: &impl Abort,
+    alloc: Global,
+    of: Of,
+    lines: &str,
+    want: Verdict,
+) -> Result<(), Fail> {
+    let told = verdict(alloc, of, lines)?;
+    assert_eq!(rt; told, want, "{of:?} {lines}");
+    Ok(())
+}
+
+/// A model, the lines of an answer, and the code, the instance and the item of the test that is
+/// told.
+type Row = (Of, &'static str, u32, u32, u32);
+
+fn check_broken(rt: &impl Abort, alloc: Global, rows: &[Row]) -> Result<(), Fail> {
+    for (of, lines, code, instance, item) in rows {
+        let want = Verdict::Broken {
+            code: *code,
+            instance: *instance,
+            item: *item,
+        };
+        check_verdict(rt, alloc, *of, lines, want)?;
+    }
+    Ok(())
 }
 
 const SATISFIED: [(Of, &str); 9] = [
@@ -73,14 +107,13 @@ const SATISFIED: [(Of, &str); 9] = [
 
 #[test]
 fn is_satisfied(rt: HostRuntime) -> Result<(), Fail> {
-    for (of, lines) in SATISFIED {
-        let told = verdict(rt.alloc(), of, lines)?;
-        assert_eq!(rt; told, Verdict::Satisfied, "{of:?} {lines}");
+    for (of, lines) in &SATISFIED {
+        check_verdict(&rt, rt.alloc(), *of, lines, Verdict::Satisfied)?;
     }
     Ok(())
 }
 
-const BROKEN: [(Of, &str, u32, u32, u32); 19] = [
+const BROKEN: [Row; 19] = [
     (
         Of::Boxes,
         "preferred\n0 Box width=2\n1 Box width=2\n",
@@ -173,21 +206,12 @@ const BROKEN: [(Of, &str, u32, u32, u32); 19] = [
 
 #[test]
 fn breaks_one_test(rt: HostRuntime) -> Result<(), Fail> {
-    for (of, lines, code, instance, item) in BROKEN {
-        let told = verdict(rt.alloc(), of, lines)?;
-        let want = Verdict::Broken {
-            code,
-            instance,
-            item,
-        };
-        assert_eq!(rt; told, want, "{of:?} {lines}");
-    }
-    Ok(())
+    check_broken(&rt, rt.alloc(), &BROKEN)
 }
 
 /// Of two tests that an answer breaks the one of the lesser code is told, wherever it is broken;
 /// then the one of the lower instance, and then of the lesser item.
-const FIRST_BROKEN: [(Of, &str, u32, u32, u32); 13] = [
+const FIRST_BROKEN: [Row; 13] = [
     (
         Of::TwoPorts,
         "preferred\n0 Card\n1 Card\n2 Card\n3 Card\n",
@@ -280,14 +304,5 @@ const FIRST_BROKEN: [(Of, &str, u32, u32, u32); 13] = [
 
 #[test]
 fn tells_the_first_broken_test(rt: HostRuntime) -> Result<(), Fail> {
-    for (of, lines, code, instance, item) in FIRST_BROKEN {
-        let told = verdict(rt.alloc(), of, lines)?;
-        let want = Verdict::Broken {
-            code,
-            instance,
-            item,
-        };
-        assert_eq!(rt; told, want, "{of:?} {lines}");
-    }
-    Ok(())
+    check_broken(&rt, rt.alloc(), &FIRST_BROKEN)
 }
