@@ -32,7 +32,7 @@ head_cases a b rest false true less same before = inr (eqb-true a b same, before
 head_cases a b rest false false less same before = cc
 
 -- The first numbers decide, and where they are equal the rest does.
-before_head : (a b : ℕ) (rest : Ordering) → IsTrue (is_lt (ordering_then (nat_cmp a b) rest)) → (a < b) ⊎ ((a ≡ b) × IsTrue (is_lt rest))
+pub before_head : (a b : ℕ) (rest : Ordering) → IsTrue (is_lt (ordering_then (nat_cmp a b) rest)) → (a < b) ⊎ ((a ≡ b) × IsTrue (is_lt rest))
 before_head a b rest before = head_cases a b rest (nat_lt a b) (a == b) refl refl before
 
 ranked : (x y y' : TaxFault) → y ≡ y' → IsFaultBefore y x → IsTrue (is_lt (slice_cmp nat_cmp (rank_of y') (rank_of x)))
@@ -52,7 +52,7 @@ NarrowsBelow m n = (t : ℕ) (d : TypeDecl) → t < n → IsAt m.types t d → N
 abbrev pub HasRoomBelow : Model → ℕ → Type 0
 HasRoomBelow m n = (k : ℕ) → k < n → IsTrue (has_room_at m k)
 
-told_apart : {A : Type 0} (p : A → Bool) (xs : List A) (k : ℕ) (x : A) → IsAt xs k x → IsFalse (p x) → IsTrue (option_map_or p (slice_get xs k) true) → ⊥
+pub told_apart : {A : Type 0} (p : A → Bool) (xs : List A) (k : ℕ) (x : A) → IsAt xs k x → IsFalse (p x) → IsTrue (option_map_or p (slice_get xs k) true) → ⊥
 told_apart p xs k x has fails passes = let there = ap (λ o. option_map_or p o true) has in cc
 
 not_both : (b : Bool) → IsTrue b → IsTrue (not b) → ⊥
@@ -170,7 +170,7 @@ none_before_port m t k d here known free narrow attributes below y (crowded u is
 -- ---- the fault that is found is the first
 
 -- the element whose test fails
-failing : {A : Type 0} (p : A → Bool) (xs : List A) (k : ℕ) (o : Option A) → slice_get xs k ≡ o → IsFalse (option_map_or p o true) → (x : A) × IsAt xs k x × IsFalse (p x)
+pub failing : {A : Type 0} (p : A → Bool) (xs : List A) (k : ℕ) (o : Option A) → slice_get xs k ≡ o → IsFalse (option_map_or p o true) → (x : A) × IsAt xs k x × IsFalse (p x)
 failing p xs k None is fails = cc
 failing p xs k (Some x) is fails = (x, is, fails)
 

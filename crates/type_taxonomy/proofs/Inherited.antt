@@ -1,5 +1,5 @@
 -- What the parent of a type has under a name, among ids with declarations.
-use Rattle.std.proofs.Common.{◌≡◌, ℕ, List, [], ◌∷◌, map, sym, ap, ap₂, ◌∙◌, refl, Option, Some, None, is_none, Bool, true, false, cond, ◌&&◌, nat_le}
+use Rattle.std.proofs.Common.{◌≡◌, ℕ, List, map, sym, ap, ap₂, ◌∙◌, refl, Option, Some, None, is_none, Bool, true, ◌&&◌, nat_le}
 use Rattle.std.specs.Option.{option_map, option_map_or, option_and_then}
 use Rattle.std.specs.List.{find}
 use Rattle.base_laws.proofs.Searches.{find_map}

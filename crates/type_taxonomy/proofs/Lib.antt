@@ -4,6 +4,7 @@ pub mod ByNameLaws
 pub mod Filling
 pub mod Finished
 pub mod FirstFault
+pub mod FirstInverseFault
 pub mod FewDeclarations
 pub mod Inherited
 pub mod Items
@@ -13,6 +14,7 @@ pub mod NearestCases
 mod NearestExamples
 pub mod NearestLaws
 pub mod NewEntries
+pub mod PortLaws
 pub mod RowLaws
 pub mod Sorts
 pub mod TaxonomyFacts

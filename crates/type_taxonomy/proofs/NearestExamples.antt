@@ -1,5 +1,5 @@
 -- Declarations that narrow the nearest of their name, and declarations that don't, computed.
-use Rattle.std.specs.Prelude.{◌≡◌, ℕ, ℤ, pos, List, [], ◌∷◌, codes, refl}
+use Rattle.std.specs.Prelude.{ℕ, ℤ, pos, [], ◌∷◌, codes, refl}
 use Rattle.std.proofs.Common.{inl, inr}
 use Rattle.prod_model.specs.declared.model.Model.{Model}
 use Rattle.prod_model.specs.declared.model.TypeDecl.{TypeDecl}

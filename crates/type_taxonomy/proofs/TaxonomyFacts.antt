@@ -23,10 +23,10 @@ use Rattle.type_taxonomy.proofs.NarrowingLaws.{attribute_back, attribute_on, por
 
 -- ---- tests of each element
 
-passes_each : {A : Type 0} (p : A → Bool) (xs : List A) → ((k : ℕ) → k < length xs → IsTrue (option_map_or p (slice_get xs k) true)) → list_all p xs ≡ true
+pub passes_each : {A : Type 0} (p : A → Bool) (xs : List A) → ((k : ℕ) → k < length xs → IsTrue (option_map_or p (slice_get xs k) true)) → list_all p xs ≡ true
 passes_each p xs each = list_all_from p xs (λ k x at. ap (λ o. option_map_or p o true) (sym at) ∙ each k (slice_get_within xs k x at))
 
-passes_below : (p : ℕ → Bool) (n : ℕ) → ((k : ℕ) → k < n → IsTrue (p k)) → list_all p (range_with_len 0 n) ≡ true
+pub passes_below : (p : ℕ → Bool) (n : ℕ) → ((k : ℕ) → k < n → IsTrue (p k)) → list_all p (range_with_len 0 n) ≡ true
 passes_below p n each = list_all_from p (range_with_len 0 n) (λ k x at. each x (omega (arith, range_with_len_lt 0 n k x at)))
 
 -- ---- what a taxonomy is
@@ -66,7 +66,7 @@ taxonomy_is m distinct known free narrow fits =
 fails_and_passes : (b : Bool) → IsFalse b → IsTrue b → ⊥
 fails_and_passes b fails passes = cc
 
-forest_of : (m : Model) → IsTaxonomy m → IsForest m.types
+pub forest_of : (m : Model) → IsTaxonomy m → IsForest m.types
 forest_of m taxonomy = record { known = λ t p d at is. parent_is_type m d p is (knows_each m taxonomy t d at); no_cycle = no_cycle m taxonomy.forest }
 
 pub taxonomy_has_no_fault : (m : Model) (f : TaxFault) → IsTaxonomy m → HasTaxFault m f → ⊥

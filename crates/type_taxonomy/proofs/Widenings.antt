@@ -38,7 +38,7 @@ port_pass m t above are p =
     ∙ ap (passes_nearest test (found_along (λ d. d.ports) (λ q. q.name) m.types (ancestors m.types t) p.name)) (are.attributes p.name)
     ∙ sym (nearer (λ d. d.ports) (λ q. q.name) (λ d. d.attributes) (λ a. a.name) either_port test m.types (ancestors m.types t) p.name)
 
-first_by : {X : Type 0} (p q : X → Bool) (xs ys : List X) (r : Option ℕ) → ((x : X) → p x ≡ q x) → xs ≡ ys
+pub first_by : {X : Type 0} (p q : X → Bool) (xs ys : List X) (r : Option ℕ) → ((x : X) → p x ≡ q x) → xs ≡ ys
     → IsFirstFailing (λ k. option_map_or p (slice_get xs k) true) (length xs) r → IsFirstFailing (λ k. option_map_or q (slice_get ys k) true) (length ys) r
 first_by p q xs ys r same are first =
     let there = subst (λ l. IsFirstFailing (λ k. option_map_or p (slice_get l k) true) (length l) r) are first in

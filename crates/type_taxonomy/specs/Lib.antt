@@ -1,4 +1,5 @@
 pub mod Faults
+pub mod Inverses
 pub mod Laws
 pub mod Nearest
 pub mod steps

@@ -4,4 +4,6 @@ pub mod ByName
 pub mod Entries
 pub mod FirstFailing
 pub mod NearestTests
+pub mod Peer
+pub mod PortRows
 pub mod TypeForest

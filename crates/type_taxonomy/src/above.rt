@@ -18,7 +18,7 @@ pub(crate) struct Above<'a> {
 }
 
 /// The declarations of a type.
-fn declared_at<D: Declaration>(types: &[TypeDecl], t: u32) -> &[D]
+pub(crate) fn declared_at<D: Declaration>(types: &[TypeDecl], t: u32) -> &[D]
     ensures { result.now ≡ declarations_of D.declared D.name_of types.now t }
 {
     match types.get(t as usize) {

@@ -3,6 +3,7 @@ ghost use Rattle.std.specs.Prelude.{◌≡◌, ◌<◌, ◌^◌, length, sum_by,
 ghost use Rattle.prod_model.specs.Taxonomy.{declared_tables_of};
 ghost use Rattle.prod_model.specs.Valid.{IsFormed, IsTaxonomy, has_distinct_names};
 ghost use Rattle.type_taxonomy.specs.Faults.{Faults};
+ghost use Rattle.type_taxonomy.specs.steps.TypeForest.{IsForest};
 
 use crate::circle::first_in_circle;
 use crate::fault::TaxFault;
@@ -15,9 +16,10 @@ use crate::widening::first_widening;
 use prod_model::{Model, Tables};
 use std::alloc::Global;
 
-/// The tables of a model's taxonomy: what each type has of attributes and ports. Otherwise its
-/// first fault, in this order: `UnknownParent`, `Cycle`, `Widening`, `Crowded`; among those of one
-/// variant by type, and then by place, attributes before ports. Or `Memory`, where memory runs out.
+/// The tables of a model's taxonomy: what each type has of attributes and ports, without the
+/// inverses of ports, which come by `inverses`. Otherwise its first fault, in this order:
+/// `UnknownParent`, `Cycle`, `Widening`, `Crowded`; among those of one variant by type, and then by
+/// place, attributes before ports. Or `Memory`, where memory runs out.
 ///
 /// A declaration widens where it is no narrowing of that of the nearest ancestor that declares its
 /// name.
@@ -47,6 +49,7 @@ pub(crate) fn build_few(alloc: Global, model: &Model) -> Result<Tables, TaxFault
     ensures tables { IfOk result (λ tables. tables ≡ declared_tables_of model.now) }
     ensures taxonomy { IfOk result
         (λ _. IsTrue (has_distinct_names model.now) → IsTaxonomy model.now) }
+    ensures forest { IfOk result (λ _. IsForest model.now.types) }
     ensures fault { IfErr result (λ e. Faults model.now e) }
 {
     if let Some(kind) = first_unknown(model) {

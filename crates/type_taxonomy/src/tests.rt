@@ -1,6 +1,7 @@
 //! Small forests worked out by hand. They are made as the tests run, so they go through
 //! `build_few`, whose conditions are numbers that a test can find out.
 mod answers;
+mod inverses;
 mod literals;
 
 use crate::fault::TaxFault;

@@ -3,6 +3,8 @@ ghost use Rattle.std.specs.Prelude.{◌≡◌, length, sum_by, IfSome};
 
 use crate::declaration::Declaration;
 use crate::fault::TaxFault;
+use crate::inverse_fault::InverseFault;
+use crate::named_inverses::inverses_few;
 use crate::taxonomy::build_few;
 use model_literals::{TypeLiteral, model_of, types_of};
 use prod_model::{AttrAt, AttrDecl, Domain, Model, PortAt, PortDecl, PortKind, Tables, TypeDecl};
@@ -66,8 +68,18 @@ fn write_ports(text: &mut String, ports: &[PortAt]) -> Result<(), AllocError> {
             "shared"
         };
         write!(text, " {}:{kind} {} {}..{}", p.id, p.target, p.low, p.high)?;
+        if let Some(inverse) = p.inverse {
+            write!(text, " ={inverse}")?;
+        }
     }
     write!(text, " )")
+}
+
+pub(super) fn write_all_ports(text: &mut String, tables: &Tables) -> Result<(), AllocError> {
+    for row in tables.ports.as_slice() {
+        write_ports(text, row.as_slice())?;
+    }
+    Ok(())
 }
 
 /// The attributes of each type and the ports of each type, or the fault.
@@ -82,10 +94,7 @@ fn write_answer(
             for row in tables.attributes.as_slice() {
                 write_attributes(text, row.as_slice())?;
             }
-            for row in tables.ports.as_slice() {
-                write_ports(text, row.as_slice())?;
-            }
-            Ok(())
+            write_all_ports(text, tables)
         }
     }
 }
@@ -100,4 +109,34 @@ pub(super) fn answer_text(alloc: Global, model: &Model) -> Result<String, Fail> 
 pub(super) fn built(alloc: Global, literals: &[TypeLiteral]) -> Result<String, Fail> {
     let types = types_of(alloc, literals)?;
     answer_text(alloc, &model_of(alloc, 0, 1, types))
+}
+
+/// What the search for inverses answers, and the tables then, if the model is small and has tables.
+fn linked(alloc: Global, model: &Model) -> Option<(Result<(), InverseFault>, Tables)> {
+    let types = model.types.as_slice();
+    if types.len() >= 1000 {
+        return None;
+    }
+    let _attributes = count::<AttrDecl>(types)?;
+    let _ports = count::<PortDecl>(types)?;
+    let Ok(mut tables) = build_few(alloc, model) else {
+        return None;
+    };
+    let answer = inverses_few(alloc, model, &mut tables);
+    Some((answer, tables))
+}
+
+/// The fault of the inverses of these types, if there is one, and the ports of each type then.
+pub(super) fn linked_text(alloc: Global, literals: &[TypeLiteral]) -> Result<String, Fail> {
+    let types = types_of(alloc, literals)?;
+    let mut text = String::new(alloc);
+    let Some((answer, tables)) = linked(alloc, &model_of(alloc, 0, 1, types)) else {
+        write!(text, "no tables")?;
+        return Ok(text);
+    };
+    if let Err(fault) = answer {
+        write!(text, "{fault:?}")?;
+    }
+    write_all_ports(&mut text, &tables)?;
+    Ok(text)
 }

@@ -1,10 +1,11 @@
 //! Types named `Kind`, and small models.
 ghost use Rattle.std.specs.Prelude.{◌≡◌, [], ◌∷◌, codes, IfOk};
 ghost use Rattle.prod_model.specs.Valid.{IsFormed};
+ghost use Rattle.type_taxonomy.specs.steps.Peer.{peer};
 
 use model_literals::{
     AttributeLiteral, PortLiteral, TypeLiteral, attribute_of, model_of, name_of, one, port,
-    port_of, range, type_literal, type_of,
+    port_of, range, type_literal, type_of, with_inverse,
 };
 use prod_model::{AttrDecl, Items, Model, PortDecl, PortKind, TypeDecl};
 use std::alloc::{AllocError, Global};
@@ -37,6 +38,22 @@ pub(super) fn formed_box(alloc: Global) -> Result<Model, AllocError>
     ensures { IfOk result IsFormed }
 {
     let types = one_box(alloc)?;
+    Ok(model_of(alloc, 0, 1, types))
+}
+
+/// One type, with a port that is its own inverse.
+fn one_peer(alloc: Global) -> Result<Items<TypeDecl>, AllocError>
+    ensures { IfOk result (λ types. types ≡ peer ∷ []) }
+{
+    let ports = [with_inverse(port(b"peer", PortKind::Shared, 0, 0, 1), b"peer")];
+    let literal = type_literal(b"Box", None, &[], &ports);
+    one(alloc, type_of(alloc, &literal)?)
+}
+
+pub(super) fn formed_peer(alloc: Global) -> Result<Model, AllocError>
+    ensures { IfOk result IsFormed }
+{
+    let types = one_peer(alloc)?;
     Ok(model_of(alloc, 0, 1, types))
 }
 

@@ -70,3 +70,6 @@ returns-clause-taxonomy c =
     taxonomy_is c.args.model.now distinct c.in_default.ensures c.in_default-first_in_circle.ensures
     (subst (λ m. (t : ℕ) (d : TypeDecl) → IsAt m.types t d → NarrowsAll m t d) same (MatchOption-at_none _ (IsFirstWidening c.in_ok-forest.forest.model.now) c.in_default-2.is c.in_ok-fault.ensures))
     (subst (λ m. HasRoomBelow m (length m.types)) same c.in_default-first_crowded.ensures)
+
+pub returns-clause-forest : goal.returns-clause-forest
+returns-clause-forest c = forest_is c.args.model.now c.in_default.ensures c.in_default-first_in_circle.ensures
