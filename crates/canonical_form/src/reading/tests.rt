@@ -40,8 +40,14 @@ fn bike_attributes(alloc: Global) -> Result<Items<AttrDecl>, AllocError>
 }
 
 fn bike_ports(alloc: Global) -> Result<Items<PortDecl>, AllocError>
-    ensures { IfOk result (λ ds. ds
-        ≡ record { name = codes "left"; kind = Part; target = 2; low = 0; high = 9 } ∷ []) }
+    ensures { IfOk result (λ ds. ds ≡ record {
+      name = codes "left";
+      kind = Part;
+      target = 2;
+      low = 0;
+      high = 9;
+      inverse = None;
+    } ∷ []) }
 {
     one(
         alloc,
@@ -59,7 +65,14 @@ fn types(alloc: Global) -> Result<Items<TypeDecl>, AllocError>
           attributes = record { name = codes "price"; domain = Range (pos 0) (pos 99) }
               ∷ record { name = codes "color"; domain = Words (codes "red" ∷ codes "blue" ∷ []) }
               ∷ [];
-          ports = record { name = codes "left"; kind = Part; target = 2; low = 0; high = 9 } ∷ [];
+          ports = record {
+            name = codes "left";
+            kind = Part;
+            target = 2;
+            low = 0;
+            high = 9;
+            inverse = None;
+          } ∷ [];
         }
         ∷ record { name = codes "Wheel"; parent = None; attributes = []; ports = [] } ∷ []) }
 {
@@ -106,8 +119,14 @@ fn attribute_rows(alloc: Global) -> Result<Items<Items<AttrAt>>, AllocError>
 }
 
 fn port_rows(alloc: Global) -> Result<Items<Items<PortAt>>, AllocError>
-    ensures { IfOk result (λ rows. rows ≡ []
-        ∷ (record { id = 0; kind = Part; target = 2; low = 0; high = 9 } ∷ []) ∷ [] ∷ []) }
+    ensures { IfOk result (λ rows. rows ≡ [] ∷ (record {
+      id = 0;
+      kind = Part;
+      target = 2;
+      low = 0;
+      high = 9;
+      inverse = None;
+    } ∷ []) ∷ [] ∷ []) }
 {
     let mut bike = Items::new(alloc);
     bike.push(PortAt {
