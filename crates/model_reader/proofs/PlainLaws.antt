@@ -15,7 +15,7 @@ use Rattle.prod_model.specs.Limits
 use Rattle.prod_model.specs.Limits.{is_between}
 use Rattle.prod_model.specs.Forest.{is_type}
 use Rattle.prod_model.specs.Names.{is_distinct}
-use Rattle.prod_model.specs.Taxonomy.{attributes_at, ports_of, ports_at, tables_of, words_of}
+use Rattle.prod_model.specs.Taxonomy.{attributes_at, ports_of, ports_at, tables_of, declared_tables_of, words_of}
 use Rattle.prod_model.specs.Valid.{IsValid, has_room, has_ends, is_pair, has_distinct_names, has_numbers_in_limits, has_known_types}
 use Rattle.model_reader.specs.Plain.{is_range, is_plain, attributes_declared, is_plain_type, has_one}
 use Rattle.model_reader.specs.steps.PlainTable.{row_from}
@@ -75,6 +75,11 @@ module _ (m : Model) where
   unfolding tables_of ports_of
   tables_of_plain h = let p = types_of_plain h in rw (p.is, attributes_of_alone p.name p.attributes) refl
 
+  -- without ports there are no inverses
+  pub declared_tables_of_plain : is_plain m ≡ true → declared_tables_of m ≡ tables_of m
+  unfolding tables_of declared_tables_of ports_of
+  declared_tables_of_plain h = let p = types_of_plain h in rw p.is refl
+
   -- the model, with its type written out
   module _ (p : IsOnePlain m.types) (valid : IsValid m) where
     written : Model
@@ -85,7 +90,7 @@ module _ (m : Model) where
     valid_written = subst IsValid (ap (λ ts. record m { types = ts }) p.is) valid
 
     few_written : length p.attributes ≤ 32
-    unfolding has_room written
+    unfolding has_room written ports_of
     few_written =
         let row = attributes_at written 0 in
         let enough = nat_le (length row) 32 in

@@ -18,7 +18,7 @@ use Rattle.prod_model.specs.Names.{is_name, is_word, is_distinct}
 use Rattle.prod_model.specs.Forest.{is_forest, is_type}
 use Rattle.prod_model.specs.Taxonomy.{ports_of, words_of}
 use Rattle.prod_model.specs.ExprBounds.{is_truth_at}
-use Rattle.prod_model.specs.Valid.{IsValid, has_few_words, has_ends, has_short_lists, has_formed_names, has_distinct_names, has_numbers_in_limits, has_known_parents_and_targets, has_known_types, has_narrowings, has_room, has_one_bound_each, has_faultless_rules}
+use Rattle.prod_model.specs.Valid.{IsValid, has_few_words, has_ends, has_short_lists, has_formed_names, has_distinct_names, has_numbers_in_limits, has_known_parents_and_targets, has_known_types, has_narrowings, has_room, has_one_bound_each, has_faultless_rules, has_right_inverses}
 use Rattle.model_reader.specs.Plain.{is_range, is_plain, is_plain_comparison}
 use Rattle.model_reader.specs.PlainFile.{plain_model}
 use Rattle.model_reader.proofs.SideLaws.{is_sound}
@@ -134,6 +134,10 @@ module _ (name : List ℕ) (attributes : List AttrDecl) (instances : ℕ) (rules
   unfolding has_faultless_rules
   faultless_rules = all_rules (λ r. is_truth_at (alone name attributes instances rules) r.kind r.holds) (rule_true (alone name attributes instances rules))
 
+  right_inverses : has_right_inverses (alone name attributes instances rules) ≡ true
+  unfolding has_right_inverses
+  right_inverses = refl
+
   is_valid : IsValid (alone name attributes instances rules)
   is_valid = record {
     declared = record {
@@ -143,6 +147,7 @@ module _ (name : List ℕ) (attributes : List AttrDecl) (instances : ℕ) (rules
       taxonomy = record { known_parents = known_parents; forest = forest; narrowings = narrowings; room = room };
     };
     faultless_rules = faultless_rules;
+    right_inverses = right_inverses;
   }
 
   is_plain_alone : is_plain (alone name attributes instances rules) ≡ true

@@ -28,9 +28,12 @@ fn want_of_memory(fault: TaxFault) -> AllocError
     }
 }
 
-/// The tables of a valid model, whose types have no fault.
+/// The tables of a valid plain model, whose types have no fault, and no ports that could have
+/// inverses.
+#[tactic(auto, using(crate::proofs::PlainLaws::declared_tables_of_plain))]
 fn tables_of(alloc: Global, model: &Model) -> Result<Tables, AllocError>
-    requires { IsValid model.now }
+    requires plain { IsTrue (is_plain model.now) }
+    requires valid { IsValid model.now }
     ensures { IfOk result (λ tables. tables ≡ tables_of model.now) }
 {
     has_no_fault();
