@@ -41,10 +41,11 @@ names_back ports t d e =
     && not (are_parts d.kind e.declared.now.kind)
 
 -- the inverse that the declaration of type t names, if it names one, is right
-abbrev pub is_right : {S : Type 0} → Ports → IndexMap (Bor (List ℕ)) (Found PortDecl) S → ℕ → PortDecl
-    → Bool
+abbrev pub is_right : {S : Type 0} → Ports → IndexMap (Bor (List ℕ)) (Found PortDecl) S → ℕ
+    → PortDecl → Bool
 is_right ports above t d =
-    option_map_or (λ name. option_map_or (λ e. is_none (found above d.name) && names_back ports t d e)
+    option_map_or (λ name. option_map_or
+    (λ e. is_none (found above d.name) && names_back ports t d e)
     (entry_named ports.rows d.target name) false) d.inverse true
 
 -- the lines, the rows and the inverses are those of the model's types
