@@ -45,7 +45,7 @@ fn nested(alloc: Global, depth: u32) -> Made {
 fn push_rules(alloc: Global, model: &mut Model) -> Result<(), AllocError> {
     for number in 0..999 {
         let name = format!(in alloc; "rule{number}")?;
-        let depth = if number < 20 { 15 } else { number % 3 };
+        let depth = if number < 20 { 15 } else { 0 };
         let holds = nested(alloc, depth);
         model.rules.push(rule(alloc, name.as_bytes(), 0, holds)?)?;
     }

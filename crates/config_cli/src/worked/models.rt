@@ -1,7 +1,7 @@
 //! The models that the tests are about. Types and rules stand in the order of their numbers.
 use super::expressions::{at_least, at_most};
 use super::literals::{model, rule};
-use model_literals::{AttributeLiteral, port, range, type_literal, words};
+use model_literals::{AttributeLiteral, port, range, type_literal, with_inverse, words};
 use prod_model::{CountBound, Expr, Model, PortKind, Rule};
 use std::alloc::{AllocError, Global};
 
@@ -169,8 +169,27 @@ pub(super) fn buses(alloc: Global) -> Result<Model, AllocError> {
     model(alloc, 1, 4, &types)
 }
 
-/// Up to 64 nodes, each of which may link them all.
+/// Racks of up to two cards, each of which knows its rack: the ports are each other's inverse.
+pub(super) fn homes(alloc: Global) -> Result<Model, AllocError> {
+    let cards = port(b"cards", PortKind::Part, 1, 0, 2);
+    let home = port(b"home", PortKind::Shared, 0, 1, 1);
+    let of_rack = [with_inverse(cards, b"home")];
+    let of_card = [with_inverse(home, b"cards")];
+    let types = [
+        type_literal(b"Rack", None, &[], &of_rack),
+        type_literal(b"Card", None, &[], &of_card),
+    ];
+    model(alloc, 0, 3, &types)
+}
+
+/// Nodes that link each other by a port that is its own inverse.
+pub(super) fn peers(alloc: Global) -> Result<Model, AllocError> {
+    let peers = [with_inverse(port(b"peers", PortKind::Shared, 0, 0, 3), b"peers")];
+    model(alloc, 0, 3, &[type_literal(b"Node", None, &[], &peers)])
+}
+
+/// Up to 256 nodes, each of which may link them all.
 pub(super) fn meshes(alloc: Global) -> Result<Model, AllocError> {
-    let next = [port(b"next", PortKind::Shared, 0, 0, 64)];
-    model(alloc, 0, 64, &[type_literal(b"Node", None, &[], &next)])
+    let next = [port(b"next", PortKind::Shared, 0, 0, 256)];
+    model(alloc, 0, 256, &[type_literal(b"Node", None, &[], &next)])
 }

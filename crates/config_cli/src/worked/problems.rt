@@ -1,18 +1,18 @@
 //! Problems of models that tests make.
-ghost use Rattle.std.specs.Prelude.{◌≡◌, ◌<◌, ◌==◌, length, map, IsTrue};
+ghost use Rattle.std.specs.Prelude.{◌≡◌, ◌<◌, ◌==◌, length, map, IsTrue, IfOk, OnOk};
 ghost use Rattle.std.specs.List.{list_all, list_any};
 ghost use Rattle.prod_model.specs.Forest.{is_type as is_number_of_type};
 ghost use Rattle.prod_model.specs.Names.{is_distinct_number};
 ghost use Rattle.prod_model.specs.ExprBounds.{is_truth_at};
-ghost use Rattle.prod_model.specs.Taxonomy.{tables_of};
-ghost use Rattle.prod_model.specs.Valid.{IsDeclared, has_known_types as types_are_known};
+ghost use Rattle.prod_model.specs.Taxonomy.{AreTablesOf, declared_tables_of, tables_of};
+ghost use Rattle.prod_model.specs.Valid.{IsFormed, IsTaxonomy, IsDeclared, has_right_inverses, has_known_types as types_are_known};
 
 use super::formed::is_formed;
 use expr_bounds::bounds_of;
 use prod_model::{Bounds, CountBound, Expr, Model, Problem, Rule, Tables};
 use std::alloc::Global;
 use std::test::Fail;
-use type_taxonomy::build;
+use type_taxonomy::{build, inverses};
 
 fn is_type(model: &Model, kind: u32) -> bool
     ensures { result ≡ is_number_of_type model.now kind }
@@ -62,7 +62,7 @@ fn has_one_bound_each(bounds: &[CountBound]) -> bool
 /// Whether the expression is found to be a truth without fault at the type.
 pub(super) fn is_truth(alloc: Global, model: &Model, tables: &Tables, at: u32, e: &Expr) -> bool
     requires declared { IsDeclared model.now }
-    requires tables { tables.now ≡ tables_of model.now }
+    requires tables { AreTablesOf model.now tables.now }
     requires at { at < length model.now.types }
     ensures { IsTrue result → IsTrue (is_truth_at model.now at e.now) }
 {
@@ -71,7 +71,7 @@ pub(super) fn is_truth(alloc: Global, model: &Model, tables: &Tables, at: u32, e
 
 fn are_truths(alloc: Global, model: &Model, tables: &Tables, rules: &[Rule]) -> bool
     requires declared { IsDeclared model.now }
-    requires tables { tables.now ≡ tables_of model.now }
+    requires tables { AreTablesOf model.now tables.now }
     ensures { IsTrue result
         → IsTrue (list_all (λ r. is_truth_at model.now r.kind r.holds) rules.now) }
 {
@@ -82,6 +82,20 @@ fn are_truths(alloc: Global, model: &Model, tables: &Tables, rules: &[Rule]) -> 
                 && is_truth(alloc, model, tables, first.kind, &first.holds)
                 && are_truths(alloc, model, tables, rest)
         }
+    }
+}
+
+/// The tables with the inverses of ports, if these are right.
+fn with_inverses(alloc: Global, model: &Model, mut tables: Tables) -> Result<Tables, Fail>
+    requires formed { IsFormed model.now }
+    requires taxonomy { IsTaxonomy model.now }
+    requires tables { tables ≡ declared_tables_of model.now }
+    ensures tables { IfOk result (λ all. all ≡ tables_of model.now) }
+    ensures right { OnOk result (IsTrue (has_right_inverses model.now)) }
+{
+    match inverses(alloc, model, &mut tables) {
+        Ok(()) => Ok(tables),
+        Err(_) => Err(Fail::from("an inverse is not right")),
     }
 }
 
@@ -102,5 +116,6 @@ pub(super) fn problem_of(alloc: Global, model: Model) -> Result<Problem, Fail> {
     if !are_truths(alloc, &model, &tables, model.rules.as_slice()) {
         return Err(Fail::from("a rule is no truth"));
     }
+    let tables = with_inverses(alloc, &model, tables)?;
     Ok(Problem::from_parts(model, tables))
 }

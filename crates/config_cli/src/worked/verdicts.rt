@@ -2,7 +2,8 @@
 //! of the tests.
 use super::answers::answer_of;
 use super::models::{
-    boxes, colours, few_cards, nodes, one_card, racks, ruled_cards, shared_drivers, two_ports,
+    boxes, colours, few_cards, homes, nodes, one_card, peers, racks, ruled_cards, shared_drivers,
+    two_ports,
 };
 use super::problems::problem_of;
 use answer_check::{Verdict, check};
@@ -24,6 +25,8 @@ enum Of {
     RuledCards,
     Racks,
     FewCards,
+    Homes,
+    Peers,
 }
 
 fn model_of(alloc: Global, of: Of) -> Result<Model, AllocError> {
@@ -38,6 +41,8 @@ fn model_of(alloc: Global, of: Of) -> Result<Model, AllocError> {
         Of::RuledCards => ruled_cards(alloc),
         Of::Racks => racks(alloc),
         Of::FewCards => few_cards(alloc),
+        Of::Homes => homes(alloc),
+        Of::Peers => peers(alloc),
     }
 }
 
@@ -81,7 +86,7 @@ fn check_broken(rt: &impl Abort, alloc: Global, rows: &[Row]) -> Result<(), Fail
     Ok(())
 }
 
-const SATISFIED: [(Of, &str); 9] = [
+const SATISFIED: [(Of, &str); 11] = [
     (Of::Boxes, "preferred\n0 Box width=2\n"),
     (Of::Colours, "preferred\n0 Blue colour=blue\n"),
     (Of::TwoPorts, "preferred\n0 Rack left: right:1\n1 Card\n"),
@@ -103,6 +108,11 @@ const SATISFIED: [(Of, &str); 9] = [
         Of::Racks,
         "preferred\n0 Rack price=50 cards:1,2\n1 Big price=18 power=12\n2 Big price=18 power=12\n",
     ),
+    (
+        Of::Homes,
+        "preferred\n0 Rack cards:1,2\n1 Card home:0\n2 Card home:0\n",
+    ),
+    (Of::Peers, "preferred\n0 Node peers:0,1\n1 Node peers:0\n"),
 ];
 
 #[test]
@@ -113,7 +123,7 @@ fn is_satisfied(rt: HostRuntime) -> Result<(), Fail> {
     Ok(())
 }
 
-const BROKEN: [Row; 19] = [
+const BROKEN: [Row; 21] = [
     (
         Of::Boxes,
         "preferred\n0 Box width=2\n1 Box width=2\n",
@@ -157,6 +167,21 @@ const BROKEN: [Row; 19] = [
         0,
     ),
     (Of::NodeParts, "preferred\n0 Node next:0\n", 7, 0, 0),
+    // The card links another rack than the one that holds it.
+    (
+        Of::Homes,
+        "preferred\n0 Rack cards:1\n1 Card home:2\n2 Rack cards:\n",
+        12,
+        0,
+        0,
+    ),
+    (
+        Of::Peers,
+        "preferred\n0 Node peers:1\n1 Node peers:\n",
+        12,
+        0,
+        0,
+    ),
     (
         Of::TwoPorts,
         "preferred\n0 Rack left:2 right:1\n1 Card\n2 Card\n",
@@ -209,9 +234,10 @@ fn breaks_one_test(rt: HostRuntime) -> Result<(), Fail> {
     check_broken(&rt, rt.alloc(), &BROKEN)
 }
 
-/// Of two tests that an answer breaks the one of the lesser code is told, wherever it is broken;
-/// then the one of the lower instance, and then of the lesser item.
-const FIRST_BROKEN: [Row; 13] = [
+/// Of two tests that an answer breaks the one of the lesser code is told, but that of links back, 12,
+/// between 7 and 8, wherever it is broken; then the one of the lower instance, and then of the
+/// lesser item.
+const FIRST_BROKEN: [Row; 15] = [
     (
         Of::TwoPorts,
         "preferred\n0 Card\n1 Card\n2 Card\n3 Card\n",
@@ -260,6 +286,22 @@ const FIRST_BROKEN: [Row; 13] = [
         "preferred\n0 Rack left:2 right:2\n1 Card\n2 Card\n",
         7,
         2,
+        0,
+    ),
+    // Two racks hold the card, which links one of them.
+    (
+        Of::Homes,
+        "preferred\n0 Rack cards:1\n1 Card home:0\n2 Rack cards:1\n",
+        7,
+        1,
+        0,
+    ),
+    // The rack that the card links doesn't hold it, and so doesn't mention it.
+    (
+        Of::Homes,
+        "preferred\n0 Rack cards:\n1 Card home:0\n",
+        12,
+        1,
         0,
     ),
     (

@@ -3,6 +3,7 @@ use Rattle.std.specs.List.{list_all}
 use Rattle.prod_model.specs.ExprBounds.{is_truth_at}
 use Rattle.prod_model.specs.Names.{is_distinct_number}
 use Rattle.prod_model.specs.Valid.{has_one_bound_each, has_faultless_rules}
+use Rattle.prod_model.proofs.Inverses.{own_declared_tables}
 use Rattle.config_cli.proofs.worked.problems.problem_of.Goals as goal
 
 pub are_truths-requires-clause-declared : goal.are_truths-requires-clause-declared
@@ -14,6 +15,9 @@ are_truths-requires-clause-declared c = record {
   taxonomy = c.in-Ok.ensures.taxonomy;
 }
 
+pub are_truths-requires-clause-tables : goal.are_truths-requires-clause-tables
+are_truths-requires-clause-tables c = own_declared_tables c.args.model c.in-Ok.tables c.in-Ok.ensures.tables
+
 pub from_parts-requires-clause-valid : goal.from_parts-requires-clause-valid
 unfolding has_one_bound_each has_faultless_rules
 from_parts-requires-clause-valid c = record {
@@ -24,4 +28,5 @@ from_parts-requires-clause-valid c = record {
     taxonomy = c.in-Ok.ensures.taxonomy;
   };
   faultless_rules = ap (list_all (λ r. is_truth_at c.args.model r.kind r.holds)) (sym c.as_slice-2.ensures) ∙ c.are_truths.ensures c.if-not-are_truths.false;
+  right_inverses = c.in_ok-tables.ensures.right;
 }
