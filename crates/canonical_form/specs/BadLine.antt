@@ -33,8 +33,8 @@ pub data IsNext (m : Model) (c : List Instance) (read : List Part) (line : ℕ) 
     : Type 0 where
   inside : (p : Part) (later : List Part) → parts_of m c ≡ read ++ p ∷ later
       → p.line ≡ line → p.code ≡ code → IsNext m c read line code
-  past_last : parts_of m c ≡ read → length c ≡ most_instances → line ≡ most_instances + 2 → code ≡ Number
-      → IsNext m c read line code
+  past_last : parts_of m c ≡ read → length c ≡ most_instances → line ≡ most_instances + 2
+      → code ≡ Number → IsNext m c read line code
 
 -- The bytes are no answer. They begin with some parts of one, and no answer that has these has a
 -- further part with which they go on.

@@ -88,7 +88,8 @@ has_single_parts m c =
 abbrev pub links_back : Model → List Instance → ℕ → ℕ → ℕ → Bool
 links_back m c q i j = list_any (λ k. k == i) (links_at_instance m c q j)
 
--- The links of instance i by a port: where it has an inverse, each linked instance links back by it.
+-- The links of instance i by a port: where it has an inverse, each linked instance links back by
+-- that.
 abbrev pub has_links_back_of : Model → List Instance → ℕ → PortAt → List ℕ → Bool
 has_links_back_of m c i p links =
     option_map_or (λ q. list_all (links_back m c q i) links) p.inverse true

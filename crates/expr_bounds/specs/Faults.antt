@@ -33,7 +33,8 @@ has_words a = not (has_range a)
 
 -- the attribute of a type of the target of a port, if there is such a port
 abbrev pub attribute_of_target : Model → ℕ → ℕ → ℕ → Option AttrAt
-attribute_of_target m t p a = option_and_then (λ q. attribute_of m q.target a) (declared_port_of m t p)
+attribute_of_target m t p a =
+    option_and_then (λ q. attribute_of m q.target a) (declared_port_of m t p)
 
 -- a word of the attribute's first declaration; it isn't tested where the attribute has a range
 abbrev pub is_known_word : Model → ℕ → AttrAt → Bool
@@ -49,7 +50,8 @@ unknown_names m (CountOf p u) t =
     place_unless (is_some (declared_port_of m t p)) 1 ++ place_unless (is_type m u) 2
 unknown_names m (Sum p a) t =
     place_unless (is_some (declared_port_of m t p)) 1
-    ++ option_map_or (λ q. place_unless (is_some (attribute_of m q.target a)) 2) (declared_port_of m t p) []
+    ++ option_map_or (λ q. place_unless (is_some (attribute_of m q.target a)) 2)
+    (declared_port_of m t p) []
 unknown_names m (Total u a) t =
     place_unless (is_type m u) 1
     ++ (if is_type m u then place_unless (is_some (attribute_of m u a)) 2 else [])

@@ -86,7 +86,8 @@ pub fn port<'a>(name: &'a [u8], kind: PortKind, target: u32, low: u32, high: u32
 
 /// The port with an inverse of this name.
 pub fn with_inverse<'a>(port: PortLiteral<'a>, inverse: &'a [u8]) -> PortLiteral<'a>
-    ensures { port_of result ≡ record (port_of port.entry) { inverse = Some (name_of inverse.now) } }
+    ensures { port_of result
+        ≡ record (port_of port.entry) { inverse = Some (name_of inverse.now) } }
 {
     PortLiteral {
         inverse: Some(inverse),

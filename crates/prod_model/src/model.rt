@@ -212,8 +212,8 @@ pub struct PortAt {
     pub low: u32,
     /// The greatest number of links, `low` to 256.
     pub high: u32,
-    /// The id of its inverse, if it has one: where an instance links another by this port, the other
-    /// links it by that one.
+    /// The id of its inverse, if it has one: where an instance links another by this port, the
+    /// other links it by that one.
     pub inverse: Option<u32>,
 }
 

@@ -14,6 +14,7 @@ use Rattle.config_value.specs.declared.found.Found.TheVariants.{Number as number
 use Rattle.config_value.specs.Value.{value_of, value_at_instance, links_at_instance, under, is_under, number_at, is_true_at, holds}
 use Rattle.answer_check.specs.Faultless.{HasBoundsAt}
 
+-- what a form is at an instance, from what its arguments are
 abbrev pub form_value : Model → List Instance → ℕ → Expr-F Expr → Found
 form_value m c i (Num n) = number n
 form_value m c i (Attr a) = number (value_at_instance m c a i)
@@ -57,6 +58,7 @@ EachHasBounds m c i args = (k : ℕ) (e : Expr) → slice_get args k ≡ Some e 
 abbrev pub HasBoundsAtEach : Model → List Instance → List ℕ → Expr → Type 0
 HasBoundsAtEach m c links e = (k j : ℕ) → slice_get links k ≡ Some j → HasBoundsAt m c j e
 
+-- the arguments of a form have bounds where they are asked for, and its sums are small
 abbrev pub IsEvaluable : Model → List Instance → ℕ → Expr-F Expr → Type 0
 IsEvaluable m c i (Num n) = Unit {0}
 IsEvaluable m c i (Attr a) = Unit {0}

@@ -61,6 +61,7 @@ line_of (at_number n) = n + 2
 line_of (at_type n) = n + 2
 line_of (at_members n attributes ports) = n + 2
 
+-- the code of the part that comes next
 abbrev pub code_of : State → PartCode
 code_of at_header = Header
 code_of at_header_end = LineEnd

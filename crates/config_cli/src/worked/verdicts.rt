@@ -234,8 +234,8 @@ fn breaks_one_test(rt: HostRuntime) -> Result<(), Fail> {
     check_broken(&rt, rt.alloc(), &BROKEN)
 }
 
-/// Of two tests that an answer breaks the one of the lesser code is told, but that of links back, 12,
-/// between 7 and 8, wherever it is broken; then the one of the lower instance, and then of the
+/// Of two tests that an answer breaks the one of the lesser code is told, but that of links back,
+/// 12, between 7 and 8, wherever it is broken; then the one of the lower instance, and then of the
 /// lesser item.
 const FIRST_BROKEN: [Row; 15] = [
     (

@@ -6,13 +6,15 @@ use Rattle.std.specs.List.{flat_map, enumerate_from}
 use Rattle.config_value.specs.declared.configuration.Instance.{Instance}
 use Rattle.config_value.specs.Numbered.{Link}
 
--- the links of one port, one instance, and a list of instances that are numbered from `i` on
+-- the links of one port of instance i
 abbrev pub port_links : ℕ → List ℕ → List Link
 port_links i links = map (λ j. record { from = i; to = j }) links
 
+-- the links of instance i, port by port
 abbrev pub instance_links : ℕ → List (List ℕ) → List Link
 instance_links i ports = flat_map (port_links i) ports
 
+-- the links of instances that are numbered from i on
 abbrev pub links_from : ℕ → List Instance → List Link
 links_from i c = flat_map (λ e. instance_links e.0 e.1.links) (enumerate_from i c)
 

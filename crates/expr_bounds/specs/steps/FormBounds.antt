@@ -12,12 +12,15 @@ use Rattle.prod_model.specs.Taxonomy.{attribute_of, declared_port_of}
 use Rattle.prod_model.specs.ExprBounds.{bounds_at, bounded, sum_of_some, difference, multiple, comparison, truth_of, of_range, is_word_of, has_arguments}
 use Rattle.prod_model.specs.steps.ExprBounds.{sum_onto}
 
+-- what a form is at a type, from what its arguments are
 abbrev pub form_bounds : Model → Expr-F Expr → ℕ → Option Bounds
 form_bounds m (Num n) t = bounded n n
 form_bounds m (Attr a) t = option_and_then (of_range bounded) (attribute_of m t a)
-form_bounds m (Count p) t = option_map (λ q. number (pos q.low) (pos q.high)) (declared_port_of m t p)
+form_bounds m (Count p) t =
+    option_map (λ q. number (pos q.low) (pos q.high)) (declared_port_of m t p)
 form_bounds m (CountOf p u) t =
-    if is_type m u then option_map (λ q. number (pos 0) (pos q.high)) (declared_port_of m t p) else None
+    if is_type m u then option_map (λ q. number (pos 0) (pos q.high)) (declared_port_of m t p)
+    else None
 form_bounds m (Sum p a) t = option_and_then
     (λ q. option_and_then (of_range (sum_of_some q.low q.high)) (attribute_of m q.target a))
     (declared_port_of m t p)

@@ -11,9 +11,11 @@ use Rattle.prod_model.specs.declared.model.PortAt.{PortAt}
 use Rattle.prod_model.specs.declared.model.PortKind.TheVariants.{Part}
 use Rattle.prod_model.specs.declared.model.Domain.TheVariants.{Range, Words}
 
+-- an attribute of whole numbers
 abbrev pub range : List ℕ → ℤ → ℤ → AttrDecl
 range name low high = record { name = name; domain = Range low high }
 
+-- a port for cards
 abbrev pub slot : ℕ → ℕ → PortDecl
 slot low high = record {
   name = codes "slot";
@@ -28,12 +30,15 @@ slot low high = record {
 abbrev pub colours : List (List ℕ)
 colours = codes "red" ∷ codes "green" ∷ codes "blue" ∷ []
 
+-- the one word of a narrowing
 abbrev pub blue_only : List (List ℕ)
 blue_only = codes "blue" ∷ []
 
+-- an attribute of words
 abbrev pub colour : List (List ℕ) → AttrDecl
 colour words = record { name = codes "colour"; domain = Words words }
 
+-- the types: a box with a width, a colour and a slot
 abbrev pub box : TypeDecl
 box = record {
   name = codes "Box";
@@ -42,6 +47,7 @@ box = record {
   ports = slot 2 3 ∷ [];
 }
 
+-- a card with a power and a loss
 abbrev pub card : TypeDecl
 card = record {
   name = codes "Card";
@@ -53,6 +59,7 @@ card = record {
   ports = [];
 }
 
+-- a blue box with exactly two cards
 abbrev pub blue : TypeDecl
 blue = record {
   name = codes "Blue";
@@ -61,15 +68,19 @@ blue = record {
   ports = slot 2 2 ∷ [];
 }
 
+-- the model of these types
 abbrev pub sample : Model
 sample = record { root = 0; instances = 5; types = box ∷ card ∷ blue ∷ []; bounds = []; rules = [] }
 
+-- an attribute of whole numbers, as the tables have it
 abbrev pub range_at : ℕ → ℤ → ℤ → AttrAt
 range_at id low high = record { id = id; domain = Range low high }
 
+-- the colour, as the tables have it
 abbrev pub colour_at : List (List ℕ) → AttrAt
 colour_at words = record { id = 1; domain = Words words }
 
+-- the slot, as the tables have it
 abbrev pub slot_at : ℕ → ℕ → PortAt
 slot_at low high = record {
   id = 0;
@@ -80,6 +91,7 @@ slot_at low high = record {
   inverse = None;
 }
 
+-- the tables of the model
 abbrev pub sample_tables : Tables
 sample_tables = record {
   attributes =

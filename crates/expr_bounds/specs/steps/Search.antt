@@ -43,9 +43,11 @@ standing_below m e s = record {
 
 -- ---- the faults of a part itself, as paths from it, ascending
 
+-- the path to the part itself, where it is wrong
 abbrev pub whole_if : Bool → List (List ℕ)
 whole_if wrong = if wrong then [] ∷ [] else []
 
+-- the paths to arguments at these places
 abbrev pub places : List ℕ → List (List ℕ)
 places ks = map (λ k. k ∷ []) ks
 
@@ -70,6 +72,7 @@ has_bounded_arguments m e t = list_all
 abbrev pub is_innermost_unbounded : Model → Expr → ℕ → Bool
 is_innermost_unbounded m e t = is_none (bounds_at m e t) && has_bounded_arguments m e t
 
+-- the faults of a kind that a part has itself
 abbrev pub own_faults : Model → FaultKind → Expr → Standing → List (List ℕ)
 own_faults m Deep e s = whole_if (is_too_deep s.levels)
 own_faults m UnknownName e s = places (option_map_or (unknown_names m (out-Expr e)) s.at [])
