@@ -41,11 +41,11 @@ fn nested(alloc: Global, depth: u32) -> Made {
     Ok(e)
 }
 
-/// 999 rules that are true, 20 of them nested as deep as is allowed, and one that is false.
+/// 999 rules that are true, five of them nested as deep as is allowed, and one that is false.
 fn push_rules(alloc: Global, model: &mut Model) -> Result<(), AllocError> {
     for number in 0..999 {
         let name = format!(in alloc; "rule{number}")?;
-        let depth = if number < 20 { 15 } else { 0 };
+        let depth = if number < 5 { 15 } else { 0 };
         let holds = nested(alloc, depth);
         model.rules.push(rule(alloc, name.as_bytes(), 0, holds)?)?;
     }
