@@ -18,7 +18,7 @@ use Rattle.prod_model.specs.Forest.{is_a, is_leaf}
 use Rattle.prod_model.specs.Taxonomy.{attributes_at, ports_at, ports_of}
 use Rattle.config_value.specs.declared.configuration.Instance.{Instance}
 use Rattle.config_value.specs.Value.{under, is_true_at}
-use Rattle.config_value.specs.Shaped.{is_shaped, has_leaf_types, has_root, has_size, has_values, has_links, has_single_parts, has_counts, has_value, is_in}
+use Rattle.config_value.specs.Shaped.{is_shaped, has_leaf_types, has_root, has_size, has_values, has_links, has_single_parts, has_links_back, has_counts, has_value, is_in}
 use Rattle.config_value.specs.Numbered.{Link, is_numbered, is_mentioned_lower, is_mentioned_before}
 use Rattle.config_value.specs.Satisfies.{follows_rules, satisfies}
 use Rattle.canonical_form.proofs.SpelledPaths.{length_pointwise}
@@ -53,10 +53,10 @@ module _ (instances : ℕ) (name : List ℕ) (attributes : List AttrDecl) (rules
 
   shaped_one_instance : (values : List ℤ) → 1 ≤ instances → IsTrue (pointwise (has_value m) (attributes_at m 0) values)
       → IsTrue (is_shaped m (one_instance values))
-  unfolding is_shaped has_root has_size has_values has_links has_single_parts has_counts is_a ports_of
+  unfolding is_shaped has_root has_size has_values has_links has_single_parts has_links_back has_counts is_a ports_of
   shaped_one_instance values some h =
-      and_from _ _ (and_from _ _ (and_from _ _ (and_from _ _ (and_from _ _ (and_from _ _
-      (leaf_type values (length_pointwise _ _ _ h)) refl) (le-leb 1 instances some)) (and_from _ _ h refl)) refl) refl) refl
+      and_from _ _ (and_from _ _ (and_from _ _ (and_from _ _ (and_from _ _ (and_from _ _ (and_from _ _
+      (leaf_type values (length_pointwise _ _ _ h)) refl) (le-leb 1 instances some)) (and_from _ _ h refl)) refl) refl) refl) refl
 
   numbered_one_instance : (values : List ℤ) → IsTrue (is_numbered (one_instance values))
   unfolding is_numbered
@@ -162,7 +162,8 @@ module _ (instances : ℕ) (name : List ℕ) (attributes : List AttrDecl) (rules
   unfolding satisfies is_shaped
   satisfied_one_instance c h =
       let parts = and_parts _ _ (and_parts _ _ h).0 in
-      let six = and_parts _ _ parts.0 in
+      let seven = and_parts _ _ parts.0 in
+      let six = and_parts _ _ seven.0 in
       let five = and_parts _ _ six.0 in
       let four = and_parts _ _ five.0 in
       let three = and_parts _ _ four.0 in
