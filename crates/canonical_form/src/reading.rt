@@ -1,5 +1,6 @@
 //! Reads the text of an answer.
-ghost use Rattle.std.specs.Prelude.{◌≡◌, map, IfOk, IfErr};
+ghost use Rattle.std.specs.Prelude.{◌≡◌, ◌==◌, map, IfOk, IfErr};
+ghost use Rattle.prod_model.specs.Limits.{most_instances};
 ghost use Rattle.prod_model.specs.Valid.{IsValid};
 ghost use Rattle.canonical_form.specs.BadLine.{IsAnswerOf, IsRefusal};
 ghost use Rattle.canonical_form.specs.steps.FirstRows.{AreFirsts};
@@ -40,7 +41,7 @@ fn read_instances(
     let mut number = 0;
     let mut rest = bytes;
     while number == 0 || !rest.is_empty() {
-        if number as usize == MOST_INSTANCES {
+        if is_full(number) {
             return Err(AnswerRefusal::at(number + 2, PartCode::Number));
         }
         let (instance, after) = read_instance(alloc, known, names, number, rest)?;
@@ -49,6 +50,13 @@ fn read_instances(
         number += 1;
     }
     Ok(instances)
+}
+
+/// Whether an answer has so many instances that it has no more.
+fn is_full(number: u32) -> bool
+    ensures { result ≡ (number == most_instances) }
+{
+    number as usize == MOST_INSTANCES
 }
 
 /// Reads an answer text: the line `preferred`, and then the line of each instance. It goes once

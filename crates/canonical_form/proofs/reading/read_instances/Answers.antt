@@ -1,4 +1,6 @@
-use Rattle.std.proofs.Common.{◌≢◌, [], sym, subst, ◌∙◌, arith}
+use Rattle.std.proofs.Common.{◌≢◌, [], sym, subst, ◌∙◌, eqb-true, eq-eqb, arith}
+use Rattle.std.proofs.lemmas.Bool.{false≢true}
+use Rattle.prod_model.specs.Limits.{most_instances}
 use Rattle.canonical_form.specs.steps.Grammar.{at_number}
 use Rattle.canonical_form.specs.steps.Reading.{Refuses}
 use Rattle.canonical_form.proofs.LineSteps.{refused_behind, same_refusal}
@@ -6,10 +8,10 @@ use Rattle.canonical_form.proofs.LinesSteps.{instances_more, instances_read, ins
 use Rattle.canonical_form.proofs.reading.read_instances.Goals as goal
 use Rattle.canonical_form.proofs.reading.read_instances.Goals.{then-number-eq0, else-number-eq0+then-not-is_empty}
 
-pub returns-then-number-eq-MOST_INSTANCES-clause-refused : goal.returns-then-number-eq-MOST_INSTANCES-clause-refused
-returns-then-number-eq-MOST_INSTANCES-clause-refused c =
+pub returns-then-is_full-clause-refused : goal.returns-then-is_full-clause-refused
+returns-then-is_full-clause-refused c =
     let m = c.args.known.now.problem.now in
-    let full = c.if-number-eq-MOST_INSTANCES.true in
+    let full = eqb-true c.loop-number.number most_instances (sym c.is_full.ensures ∙ c.if-is_full.true) in
     let some : c.loop-number.rest.now ≢ [] = elim c.if-number-eq0.branch [
       | then-number-eq0 w ↦ λ e. let none = w.if-number-eq0.true in absurd (omega arith)
       | else-number-eq0+then-not-is_empty w ↦ λ e. no_length c.loop-number.rest.now e (sym w.is_empty.ensures ∙ w.if-not-is_empty.true)
@@ -28,6 +30,6 @@ returns-in_err-instance-clause-refused c =
 pub loop-number-preserved : goal.loop-number-preserved
 loop-number-preserved c =
     let most = c.loop-number.invariant.few in
-    let other = c.if-number-eq-MOST_INSTANCES.false in
+    let other : c.loop-number.number ≢ most_instances = λ same. false≢true (sym c.if-is_full.false ∙ c.is_full.ensures ∙ eq-eqb c.loop-number.number most_instances same) in
     instances_more c.args.known.now.problem.now c.loop-number.number c.args.bytes.now c.loop-number.instances c.loop-number.rest.now c.in_ok-instance.instance c.in_ok-instance.after.now c.push.new.self (omega arith)
     c.loop-number.invariant c.in_ok-instance.ensures.read c.in_ok-push.ensures.ok
