@@ -2,5 +2,7 @@
 #![tactic(auto)]
 
 mod change;
+mod word_domain;
 
 pub use change::Change;
+pub use word_domain::WordDomain;

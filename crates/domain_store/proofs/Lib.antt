@@ -1,0 +1,3 @@
+pub mod Narrowing
+pub mod Bits
+pub mod Words
