@@ -1,0 +1,4 @@
+pub mod Sets
+pub mod Narrowed
+pub mod Instances
+pub mod Bounds

@@ -1,0 +1,8 @@
+//! What a port may link, as a set of possible links that narrows.
+#![tactic(auto)]
+
+mod port_domain;
+
+pub use domain_store::Change;
+pub use instance_set::InstanceSet;
+pub use port_domain::PortDomain;
