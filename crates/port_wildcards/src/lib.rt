@@ -1,6 +1,7 @@
 //! What a port may link, as a set of possible links that narrows.
 #![tactic(auto)]
 
+pub mod laws;
 mod port_domain;
 
 pub use domain_store::Change;

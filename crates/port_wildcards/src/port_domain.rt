@@ -1,8 +1,9 @@
 //! A port with the links that it must have and those that it may have.
-ghost use Rattle.std.specs.Prelude.{◌≡◌, ◌≢◌, ◌↔◌, ◌<◌, ◌≤◌, not, nat_le, length, IsTrue};
+ghost use Rattle.std.specs.Prelude.{◌≡◌, ◌≢◌, ◌↔◌, ◌<◌, ◌≤◌, ◌-◌, not, nat_le, length, IsTrue};
 ghost use Rattle.instance_set.specs.InstanceSets.{is_member, members, IsWithin};
 ghost use Rattle.domain_store.specs.declared.change.Change.TheVariants.{Same, Smaller, Empty};
 ghost use Rattle.port_wildcards.specs.Ports.{is_linked, IsPort, IsClosed, IsWhole, NarrowsLinks, Gains, Loses, with_required, with_possible, with_fresh};
+ghost use Rattle.port_wildcards.specs.Made.{MakesHere, MakesElsewhere};
 
 use domain_store::Change;
 use instance_set::InstanceSet;
@@ -113,6 +114,43 @@ impl PortDomain {
         ensures formed { IsPort self.new }
     {
         self.fresh_at_most(0)
+    }
+
+    /// Instance `j` is made for this port, which links it.
+    pub fn made_here(&mut self, j: u32)
+        requires below { j < 256 }
+        requires open { 1 ≤ self.old.fresh_high }
+        requires formed { IsPort self.old }
+        ensures required { Gains j self.old.required self.new.required }
+        ensures possible { Gains j self.old.possible self.new.possible }
+        ensures fresh_low { self.new.fresh_low ≡ self.old.fresh_low - 1 }
+        ensures fresh_high { self.new.fresh_high ≡ self.old.fresh_high - 1 }
+        ensures made { MakesHere j self.old self.new }
+        ensures formed { IsPort self.new }
+    {
+        self.required.insert(j);
+        self.possible.insert(j);
+        self.fresh_low = self.fresh_low.saturating_sub(1);
+        self.fresh_high -= 1;
+    }
+
+    /// Instance `j` is made for another port. Unless this one is closed, it may link it too.
+    pub fn made_elsewhere(&mut self, j: u32)
+        requires below { j < 256 }
+        requires formed { IsPort self.old }
+        ensures closed { IsClosed self.old → self.new ≡ self.old }
+        ensures possible { ¬ IsClosed self.old → Gains j self.old.possible self.new.possible }
+        ensures required { self.new.required ≡ self.old.required }
+        ensures fresh_low { self.new.fresh_low ≡ self.old.fresh_low - 1 }
+        ensures fresh_high { self.new.fresh_high ≡ self.old.fresh_high }
+        ensures made { MakesElsewhere j self.old self.new }
+        ensures formed { IsPort self.new }
+    {
+        if self.is_closed() {
+            return;
+        }
+        self.possible.insert(j);
+        self.fresh_low = self.fresh_low.saturating_sub(1);
     }
 
     /// How many made instances must be linked.
