@@ -3,6 +3,8 @@
 
 pub mod laws;
 mod port_domain;
+#[cfg(test)]
+mod tests;
 
 pub use domain_store::Change;
 pub use instance_set::InstanceSet;
