@@ -56,11 +56,11 @@ impl PortDomain {
         if self.required.contains(j) {
             return Change::Empty;
         }
-        if !self.possible.contains(j) {
-            return Change::Same;
+        if self.possible.contains(j) {
+            self.possible.remove(j);
+            return Change::Smaller;
         }
-        self.possible.remove(j);
-        Change::Smaller
+        Change::Same
     }
 
     /// At most `n` links lead to later instances.
