@@ -1,3 +1,5 @@
 pub mod Narrowing
 pub mod Bits
 pub mod Words
+pub mod Intervals
+pub mod Cuts

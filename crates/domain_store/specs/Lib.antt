@@ -1,2 +1,4 @@
+pub mod Intervals
 pub mod Narrowing
 pub mod Words
+pub mod steps

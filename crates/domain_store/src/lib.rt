@@ -2,7 +2,11 @@
 #![tactic(auto)]
 
 mod change;
+mod int_domain;
+mod interval;
 mod word_domain;
 
 pub use change::Change;
+pub use int_domain::IntDomain;
+pub use interval::Interval;
 pub use word_domain::WordDomain;
