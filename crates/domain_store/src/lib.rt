@@ -4,6 +4,8 @@
 mod change;
 mod int_domain;
 mod interval;
+#[cfg(test)]
+mod tests;
 mod word_domain;
 
 pub use change::Change;
