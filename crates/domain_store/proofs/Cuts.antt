@@ -98,8 +98,8 @@ module _ (range : Interval) where
       by rest true is =
           ap ascend_apart (cut_first r rs true is)
           ∙ and_from (is_some (common range r) && list_all (is_apart (common range r)) (cut range rs)) (ascend_apart (cut range rs))
-            (and_from (is_some (common range r)) (list_all (is_apart (common range r)) (cut range rs)) is (all_apart r rs parts.1))
-            rest
+          (and_from (is_some (common range r)) (list_all (is_apart (common range r)) (cut range rs)) is (all_apart r rs parts.1))
+          rest
       by rest false is = ap ascend_apart (cut_first r rs false is) ∙ rest
 
   abbrev pub meets : List Interval → Bool

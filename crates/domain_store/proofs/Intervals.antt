@@ -1,5 +1,5 @@
 -- The ends of an ascending list of intervals are its least and its greatest number.
-use Rattle.std.proofs.Common.{◌≡◌, ℕ, suc, ◌-◌, ◌∙◌, ap, sym, false, ◌&&◌, List, [], ◌∷◌, length, Some, refl, inl, inr, ℤ, pos, arith}
+use Rattle.std.proofs.Common.{◌≡◌, suc, ◌-◌, ◌∙◌, ap, sym, false, ◌&&◌, List, [], ◌∷◌, length, Some, inl, inr, ℤ, pos, arith}
 use Rattle.std.specs.Prelude.{IsTrue, int_le, int_lt, ◌≤ℤ◌, ◌+ℤ◌, slice_get}
 use Rattle.std.specs.List.{list_all}
 use Rattle.std.proofs.lemmas.Int.{ints}

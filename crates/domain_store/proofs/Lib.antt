@@ -3,3 +3,5 @@ pub mod Bits
 pub mod Words
 pub mod Intervals
 pub mod Cuts
+pub mod Fronts
+pub mod Ranges

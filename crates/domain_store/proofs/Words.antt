@@ -77,12 +77,12 @@ lowest_word mask some fits =
 
 pub highest_word : (mask k : ℕ) → 2 ^ k ≤ mask → mask < 2 * 2 ^ k → IsGreatestWord mask k
 highest_word mask k from below = (
-      ap (λ n. n % 2 == 1) one,
-      λ i is. elim (cases_lt k i) [
-        | inl past ↦ absurd (false≢true (sym (ap (λ b. b == 1) (bit_at_above mask (k + 1) i (omega (arith, below, pow-add 2 k 1)) (omega arith))) ∙ is))
-        | inr within ↦ within
-      ],
-    )
+  ap (λ n. n % 2 == 1) one,
+  λ i is. elim (cases_lt k i) [
+    | inl past ↦ absurd (false≢true (sym (ap (λ b. b == 1) (bit_at_above mask (k + 1) i (omega (arith, below, pow-add 2 k 1)) (omega arith))) ∙ is))
+    | inr within ↦ within
+  ],
+)
   where
     one : mask / 2 ^ k ≡ 1
     one = div-eq_of_lt-le {k = 1} (2 ^ k) (omega (arith, from)) (omega (arith, below))

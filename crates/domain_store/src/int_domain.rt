@@ -72,6 +72,48 @@ impl IntDomain {
             intervals: SmallVec::from_slice(alloc, self.intervals.as_slice())?,
         })
     }
+
+    /// Leaves the numbers up to `n`.
+    pub fn at_most(&mut self, n: i64) -> Change
+        ensures narrowed { NarrowsNumbers (λ v. int_le v n) result self.old self.new }
+        ensures formed { IsTrue (are_intervals self.new) }
+    {
+        let low = self.low();
+        self.narrow(Interval { low, high: n })
+    }
+
+    /// Leaves the numbers from `n` on.
+    pub fn at_least(&mut self, n: i64) -> Change
+        ensures narrowed { NarrowsNumbers (λ v. int_le n v) result self.old self.new }
+        ensures formed { IsTrue (are_intervals self.new) }
+    {
+        let high = self.high();
+        self.narrow(Interval { low: n, high })
+    }
+
+    /// Leaves `n` alone.
+    pub fn keep(&mut self, n: i64) -> Change
+        ensures narrowed { NarrowsNumbers (λ v. int_eq v n) result self.old self.new }
+        ensures formed { IsTrue (are_intervals self.new) }
+    {
+        self.narrow(Interval { low: n, high: n })
+    }
+
+    /// Leaves the numbers of a range, unless there is none.
+    fn narrow(&mut self, range: Interval) -> Change
+        ensures narrowed { NarrowsNumbers (is_inside range) result self.old self.new }
+        ensures formed { IsTrue (are_intervals self.new) }
+    {
+        if !any_meets(self.intervals.as_slice(), range) {
+            return Change::Empty;
+        }
+        if all_are_part(self.intervals.as_slice(), range) {
+            return Change::Same;
+        }
+        let count = cut_to(self.intervals.as_mut_slice(), range);
+        self.intervals.truncate(count);
+        Change::Smaller
+    }
 }
 
 /// The lower end of the first interval.
@@ -92,4 +134,34 @@ fn last_high(intervals: &[Interval]) -> i64
         Some(last) => last.high,
         None => 0,
     }
+}
+
+/// Whether one of the intervals has a number of the range.
+fn any_meets(intervals: &[Interval], range: Interval) -> bool
+    ensures { result ≡ list_any (λ r. is_some (common range r)) intervals.now }
+{
+    intervals.iter().any(|r| r.common(range).is_some())
+}
+
+/// Whether the intervals lie in the range.
+fn all_are_part(intervals: &[Interval], range: Interval) -> bool
+    ensures { result ≡ list_all (is_part range) intervals.now }
+{
+    intervals.iter().all(|r| r.is_part(range))
+}
+
+/// Cuts the intervals to a range, with those that are left in front, and counts these.
+fn cut_to(intervals: &mut [Interval], range: Interval) -> usize
+    ensures length { length intervals.new ≡ length intervals.old }
+    ensures cut { take result intervals.new ≡ cut range intervals.old }
+{
+    let mut count = 0;
+    for i in 0..intervals.len() {
+        let part = intervals[i].common(range);
+        if part.is_some() {
+            intervals[count] = part;
+            count += 1;
+        }
+    }
+    count
 }

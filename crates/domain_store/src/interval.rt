@@ -36,8 +36,16 @@ impl Interval {
     pub(crate) fn common(self, range: Interval) -> Interval
         ensures { result ≡ common range self }
     {
-        let low = if self.low <= range.low { range.low } else { self.low };
-        let high = if self.high <= range.high { self.high } else { range.high };
+        let low = if self.low <= range.low {
+            range.low
+        } else {
+            self.low
+        };
+        let high = if self.high <= range.high {
+            self.high
+        } else {
+            range.high
+        };
         Interval { low, high }
     }
 }

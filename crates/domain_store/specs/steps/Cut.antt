@@ -20,4 +20,5 @@ common range r = record {
 -- what the intervals have in common with the range
 abbrev pub cut : Interval → List Interval → List Interval
 cut range [] = []
-cut range (r ∷ rs) = if is_some (common range r) then common range r ∷ cut range rs else cut range rs
+cut range (r ∷ rs) =
+    if is_some (common range r) then common range r ∷ cut range rs else cut range rs

@@ -1,4 +1,4 @@
-use Rattle.std.proofs.Common.{rules, ◌≡◌, ℤ, sym, subst, to_z, of_z, w64}
+use Rattle.std.proofs.Common.{rules, ◌≡◌, ℤ, subst, to_z, of_z, w64}
 use Rattle.std.specs.Prelude.{IsTrue}
 use Rattle.domain_store.specs.Intervals.{are_intervals, IsGreatestNumber}
 use Rattle.domain_store.specs.steps.Ends.{high_of}
