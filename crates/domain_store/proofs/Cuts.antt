@@ -128,7 +128,7 @@ module _ (range : Interval) where
           ∙ next (sym (ap (λ b. b || meets rs) is) ∙ some)
           ∙ sym (ap ascend_apart (cut_first r rs false is))
 
-  ascending : (rs : List Interval) → IsTrue (are_intervals rs) → IsTrue (ascend_apart rs)
+  pub ascending : (rs : List Interval) → IsTrue (are_intervals rs) → IsTrue (ascend_apart rs)
   ascending [] h = refl
   ascending (r ∷ rs) h = h
 

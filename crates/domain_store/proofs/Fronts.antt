@@ -1,10 +1,11 @@
 -- Intervals cut in place: what is left of those read so far stands in front.
-use Rattle.std.proofs.Common.{◌≡◌, ◌∙◌, ap, ap₂, sym, Bool, true, false, ℕ, ◌+◌, ◌<◌, ◌≤◌, List, [], ◌∷◌, ◌++◌, take, drop, length, get_or, set, arith}
+use Rattle.std.proofs.Common.{◌≡◌, ◌∙◌, ap, ap₂, sym, Bool, true, false, ℕ, suc, ◌+◌, ◌<◌, ◌≤◌, List, [], ◌∷◌, ◌++◌, take, drop, length, get_or, set, arith}
 use Rattle.std.specs.Prelude.{if◌then◌else◌}
-use Rattle.std.specs.List.{refill}
-use Rattle.std.proofs.lemmas.List.{take_more, take_more_set, drop-set-lt, get_or-drop, drop-drop, drop_all, take_all, append-nil}
+use Rattle.std.specs.List.{refill, insert}
+use Rattle.std.proofs.lemmas.List.{length-set, length-append, length-take-le, append_assoc, set_split, set_at, drop_more, take_more, take_more_set, drop-set-lt, get_or-drop, drop-drop, drop_all, take_all, append-nil}
 use Rattle.domain_store.specs.declared.interval.Interval.{Interval}
 use Rattle.domain_store.specs.steps.Cut.{is_some, common, cut}
+use Rattle.domain_store.specs.steps.Without.{replaced}
 use Rattle.domain_store.proofs.Cuts.{cut_more}
 
 refill_same_length : {X : Type 0} (xs ws : List X) → length ws ≡ length xs → refill (length xs) xs ws ≡ ws
@@ -18,6 +19,34 @@ pub written_front : (range : Interval) (count : ℕ) (old seen new : List Interv
     → take count new ≡ cut range seen → take count (refill (length old) old new) ≡ cut range old
 written_front range count old seen new same long front =
     ap (take count) (refill_same_length old new (long ∙ ap length same)) ∙ front ∙ ap (cut range) same
+
+-- one element, written through a slice
+pub written_one : (k : ℕ) (x : Interval) (old seen : List Interval) → seen ≡ old → k < length old
+    → refill (length old) old (set seen k x) ≡ replaced old k (x ∷ [])
+written_one k x old seen same within =
+    ap (λ l. refill (length old) old (set l k x)) same
+    ∙ refill_same_length old (set old k x) (length-set old k x)
+    ∙ set_split old k x within
+
+-- an element before one, and another in its place
+two_for_one : (k : ℕ) (x y : Interval) (old : List Interval) → k < length old
+    → set (insert old k x) (k + 1) y ≡ replaced old k (x ∷ y ∷ [])
+two_for_one k x y old within =
+    ap (λ l. set l (k + 1) y) (ap (λ l. take k old ++ x ∷ l) (drop_more old k x within) ∙ sym (append_assoc (take k old) (x ∷ []) (get_or old k x ∷ drop (k + 1) old)))
+    ∙ set_at (take k old ++ x ∷ []) (get_or old k x) (drop (k + 1) old) y (k + 1) (length-append (take k old) (x ∷ []) ∙ ap (λ m. m + 1) (length-take-le k old (omega (arith, within))))
+    ∙ append_assoc (take k old) (x ∷ []) (y ∷ drop (k + 1) old)
+    ∙ ap (λ m. take k old ++ (x ∷ y ∷ drop m old)) next
+  where
+    next : k + 1 ≡ suc k
+    next = omega arith
+
+pub written_two : (k : ℕ) (x y : Interval) (old put seen : List Interval) → k < length old → put ≡ insert old k x → seen ≡ put
+    → refill (length put) put (set seen (k + 1) y) ≡ replaced old k (x ∷ y ∷ [])
+written_two k x y old put seen within is same =
+    ap (λ l. refill (length put) put (set l (k + 1) y)) same
+    ∙ refill_same_length put (set put (k + 1) y) (length-set put (k + 1) y)
+    ∙ ap (λ l. set l (k + 1) y) is
+    ∙ two_for_one k x y old within
 
 module _ (range : Interval) (old now : List Interval) (i count : ℕ) (any part : Interval) (long : length now ≡ length old)
     (within : i < length old) (behind : count ≤ i) (done : take count now ≡ cut range (take i old)) (rest : drop i now ≡ drop i old)

@@ -5,3 +5,5 @@ pub mod Intervals
 pub mod Cuts
 pub mod Fronts
 pub mod Ranges
+pub mod Without
+pub mod Removal

@@ -1,5 +1,6 @@
 -- Sets of whole numbers as ascending lists of intervals.
-use Rattle.std.specs.Prelude.{ℤ, pos, ◌≤ℤ◌, ◌+ℤ◌, int_le, int_lt, Bool, true, false, ◌&&◌, IsTrue, List, [], ◌∷◌}
+use Rattle.std.specs.Prelude.{ℤ, pos, ◌≤ℤ◌, ◌+ℤ◌, int_le, int_lt, Bool, true, false, not, ◌&&◌, IsTrue, List, [], ◌∷◌}
+use Rattle.std.specs.Ordering.{int_eq}
 use Rattle.std.specs.List.{list_any, list_all}
 use Rattle.domain_store.specs.declared.change.Change.{Change}
 use Rattle.domain_store.specs.declared.interval.Interval.{Interval}
@@ -33,6 +34,10 @@ IsLeastNumber rs v = IsTrue (is_in_one rs v) × ((u : ℤ) → IsTrue (is_in_one
 
 abbrev pub IsGreatestNumber : List Interval → ℤ → Type 0
 IsGreatestNumber rs v = IsTrue (is_in_one rs v) × ((u : ℤ) → IsTrue (is_in_one rs u) → u ≤ℤ v)
+
+-- a number other than n
+abbrev pub is_other : ℤ → ℤ → Bool
+is_other n v = not (int_eq v n)
 
 -- a narrowing of a set of numbers
 abbrev pub NarrowsNumbers : (ℤ → Bool) → Change → List Interval → List Interval → Type 0

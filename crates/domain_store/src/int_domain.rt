@@ -1,9 +1,10 @@
 //! Sets of whole numbers.
-ghost use Rattle.std.specs.Prelude.{◌≡◌, ◌≤ℤ◌, ◌∷◌, [], IfOk, IsTrue, int_le, take, length, ◌≤◌};
-ghost use Rattle.std.specs.List.{list_any, list_all};
+ghost use Rattle.std.specs.Prelude.{◌<◌, OnOk, OnErr, ◌≡◌, ◌≤ℤ◌, ◌∷◌, [], IfOk, IsTrue, int_le, take, length, ◌≤◌};
+ghost use Rattle.std.specs.List.{list_any, list_all, position};
 ghost use Rattle.std.specs.Ordering.{int_eq};
-ghost use Rattle.domain_store.specs.Intervals.{are_intervals, is_inside, is_in_one, IsLeastNumber, IsGreatestNumber, NarrowsNumbers};
+ghost use Rattle.domain_store.specs.Intervals.{are_intervals, is_other, is_inside, is_in_one, IsLeastNumber, IsGreatestNumber, NarrowsNumbers};
 ghost use Rattle.domain_store.specs.steps.Cut.{is_some, is_part, common, cut};
+ghost use Rattle.domain_store.specs.steps.Without.{without, replaced};
 ghost use Rattle.domain_store.specs.steps.Ends.{low_of, high_of};
 
 use crate::change::Change;
@@ -99,6 +100,23 @@ impl IntDomain {
         self.narrow(Interval { low: n, high: n })
     }
 
+    /// Removes `n`. `AllocError` where memory runs out, and then nothing changes.
+    pub fn remove(&mut self, n: i64) -> Result<Change, AllocError>
+        ensures narrowed { IfOk result (λ c. NarrowsNumbers (is_other n) c self.old self.new) }
+        ensures unchanged { OnErr result (self.new ≡ self.old) }
+        ensures formed { IsTrue (are_intervals self.new) }
+    {
+        let Some(at) = place_of(self.intervals.as_slice(), n) else {
+            return Ok(Change::Same);
+        };
+        if self.low() == self.high() {
+            return Ok(Change::Empty);
+        }
+        let found = self.intervals.as_slice()[at];
+        take_out(&mut self.intervals, at, found, n)?;
+        Ok(Change::Smaller)
+    }
+
     /// Leaves the numbers of a range, unless there is none.
     fn narrow(&mut self, range: Interval) -> Change
         ensures narrowed { NarrowsNumbers (is_inside range) result self.old self.new }
@@ -164,4 +182,75 @@ fn cut_to(intervals: &mut [Interval], range: Interval) -> usize
         }
     }
     count
+}
+
+/// The place of the interval that has the number.
+fn place_of(intervals: &[Interval], n: i64) -> Option<usize>
+    ensures { result ≡ position (λ r. is_inside r n) intervals.now }
+{
+    intervals.iter().position(|r| r.contains(n))
+}
+
+/// Takes a number out of the interval at a place. A number in its middle leaves two.
+fn take_out(
+    list: &mut SmallVec<Interval, 2>,
+    at: usize,
+    found: Interval,
+    n: i64,
+) -> Result<(), AllocError>
+    requires { at < length list.old.items }
+    ensures ok { OnOk result (list.new.items ≡ replaced list.old.items at (without n found)) }
+    ensures err { OnErr result (list.new.items ≡ list.old.items) }
+{
+    if found.low < n {
+        let below = Interval {
+            low: found.low,
+            high: n - 1,
+        };
+        if n < found.high {
+            let above = Interval {
+                low: n + 1,
+                high: found.high,
+            };
+            return split(list, at, below, above);
+        }
+        put(list, at, below);
+    } else if n < found.high {
+        put(
+            list,
+            at,
+            Interval {
+                low: n + 1,
+                high: found.high,
+            },
+        );
+    } else {
+        list.remove(at);
+    }
+    Ok(())
+}
+
+/// Puts two intervals in place of one.
+fn split(
+    list: &mut SmallVec<Interval, 2>,
+    at: usize,
+    below: Interval,
+    above: Interval,
+) -> Result<(), AllocError>
+    requires { at < length list.old.items }
+    ensures ok { OnOk result (list.new.items ≡ replaced list.old.items at (below ∷ above ∷ [])) }
+    ensures err { OnErr result (list.new.items ≡ list.old.items) }
+{
+    list.insert(at, below)?;
+    let all = list.as_mut_slice();
+    all[at + 1] = above;
+    Ok(())
+}
+
+/// Puts an interval in place of another.
+fn put(list: &mut SmallVec<Interval, 2>, at: usize, interval: Interval)
+    requires { at < length list.old.items }
+    ensures { list.new.items ≡ replaced list.old.items at (interval ∷ []) }
+{
+    list.as_mut_slice()[at] = interval;
 }

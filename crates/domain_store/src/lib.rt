@@ -5,6 +5,8 @@ mod change;
 mod int_domain;
 mod interval;
 #[cfg(test)]
+mod number_tests;
+#[cfg(test)]
 mod tests;
 mod word_domain;
 
