@@ -28,10 +28,11 @@ abbrev pub are_intervals : List Interval → Bool
 are_intervals [] = false
 are_intervals (r ∷ rs) = ascend_apart (r ∷ rs)
 
--- the least and the greatest number of the set
+-- the least number of the set
 abbrev pub IsLeastNumber : List Interval → ℤ → Type 0
 IsLeastNumber rs v = IsTrue (is_in_one rs v) × ((u : ℤ) → IsTrue (is_in_one rs u) → v ≤ℤ u)
 
+-- the greatest number of the set
 abbrev pub IsGreatestNumber : List Interval → ℤ → Type 0
 IsGreatestNumber rs v = IsTrue (is_in_one rs v) × ((u : ℤ) → IsTrue (is_in_one rs u) → u ≤ℤ v)
 

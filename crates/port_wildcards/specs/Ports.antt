@@ -48,12 +48,14 @@ Gains j old new = (k : ℕ) → is_member new k ≡ (is_member old k || (k == j)
 abbrev pub Loses : ℕ → InstanceSet → InstanceSet → Type 0
 Loses j old new = (k : ℕ) → is_member new k ≡ (is_member old k && not (k == j))
 
--- the port with other required or possible instances, or other bounds
+-- the port with other required instances
 abbrev pub with_required : InstanceSet → PortDomain → PortDomain
 with_required s q = record q { required = s }
 
+-- the port with other possible instances
 abbrev pub with_possible : InstanceSet → PortDomain → PortDomain
 with_possible s q = record q { possible = s }
 
+-- the port with other bounds
 abbrev pub with_fresh : ℕ → ℕ → PortDomain → PortDomain
 with_fresh low high q = record q { fresh_low = low; fresh_high = high }

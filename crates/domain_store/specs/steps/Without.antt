@@ -2,10 +2,11 @@
 use Rattle.std.specs.Prelude.{ℕ, suc, ℤ, pos, ◌+ℤ◌, ◌-ℤ◌, int_lt, List, [], ◌∷◌, ◌++◌, if◌then◌else◌, take, drop}
 use Rattle.domain_store.specs.declared.interval.Interval.{Interval}
 
--- the part of the interval below the number, and the part above it
+-- the part of the interval below the number
 abbrev pub below : ℤ → Interval → Interval
 below n r = record { low = r.low; high = n -ℤ pos 1 }
 
+-- the part of the interval above the number
 abbrev pub above : ℤ → Interval → Interval
 above n r = record { low = n +ℤ pos 1; high = r.high }
 
