@@ -6,7 +6,7 @@ ghost use Rattle.expr_bounds.specs.steps.Sample.{box as box_decl, card as card_d
 use model_literals::{
     Values, domain_of, model_of, one, port, range, two, type_literal, type_of, words,
 };
-use prod_model::{AttrAt, Domain, Items, Model, PortAt, PortKind, Tables, TypeDecl};
+use prod_model::{AttrAt, Domain, Items, Model, PortAt, PortKind, PortRows, Tables, TypeDecl};
 use std::alloc::{AllocError, Global};
 
 /// A model of three types with its tables.
@@ -70,7 +70,7 @@ fn tables(alloc: Global) -> Result<Tables, AllocError>
     let blue_slots = one(alloc, of_slot(2, 2))?;
     Ok(Tables {
         attributes: three(alloc, of_box, of_card, of_blue)?,
-        ports: three(alloc, slots, Items::new(alloc), blue_slots)?,
+        ports: rows(alloc, slots, blue_slots)?,
     })
 }
 
@@ -107,6 +107,21 @@ fn of_slot(low: u32, high: u32) -> PortAt
         high,
         inverse: None,
     }
+}
+
+/// The rows of the ports of the box, of the card and of the blue one.
+fn rows(
+    alloc: Global,
+    slots: Items<PortAt>,
+    blue_slots: Items<PortAt>,
+) -> Result<PortRows, AllocError>
+    ensures { IfOk result (λ rows. rows ≡ slots ∷ [] ∷ blue_slots ∷ []) }
+{
+    let mut rows = PortRows::new(alloc);
+    rows.push(slots)?;
+    rows.push(Items::new(alloc))?;
+    rows.push(blue_slots)?;
+    Ok(rows)
 }
 
 fn three<T: Drop>(alloc: Global, a: T, b: T, c: T) -> Result<Items<T>, AllocError>

@@ -7,6 +7,7 @@ use crate::model::{
     Tables, TypeDecl,
 };
 use crate::name::Name;
+use crate::port_rows::PortRows;
 use sqlite_items::Items;
 use std::alloc::{AllocError, Global};
 
@@ -135,11 +136,21 @@ impl Copies for PortAt {
     }
 }
 
+fn copy_rows(alloc: Global, rows: &[Items<PortAt>]) -> Result<PortRows, AllocError>
+    ensures { IfOk result (λ c. c ≡ rows.now) }
+{
+    let mut copies = PortRows::new(alloc);
+    for row in rows {
+        copies.push(row.copy(alloc)?)?;
+    }
+    Ok(copies)
+}
+
 impl Copies for Tables {
     fn copy(&self, alloc: Global) -> Result<Tables, AllocError> {
         Ok(Tables {
             attributes: self.attributes.copy(alloc)?,
-            ports: self.ports.copy(alloc)?,
+            ports: copy_rows(alloc, self.ports.as_slice())?,
         })
     }
 }

@@ -8,6 +8,7 @@ pub mod laws;
 pub mod limits;
 mod model;
 mod name;
+mod port_rows;
 mod problem;
 mod same;
 mod tables;
@@ -22,5 +23,6 @@ pub use model::{
     Request, Rule, Tables, TypeDecl,
 };
 pub use name::Name;
+pub use port_rows::PortRows;
 pub use problem::Problem;
 pub use sqlite_items::{Boxed, Items};

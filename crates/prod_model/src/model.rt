@@ -11,6 +11,7 @@ ghost use Rattle.prod_model.specs.Taxonomy.{words_of};
 use crate::copies::Copies;
 use crate::expr::Expr;
 use crate::name::Name;
+use crate::port_rows::PortRows;
 use crate::same::Same;
 use sqlite_items::Items;
 use std::alloc::{AllocError, Global};
@@ -222,5 +223,5 @@ pub struct PortAt {
 #[derive(Drop)]
 pub struct Tables {
     pub attributes: Items<Items<AttrAt>>,
-    pub ports: Items<Items<PortAt>>,
+    pub ports: PortRows,
 }

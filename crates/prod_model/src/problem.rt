@@ -102,7 +102,7 @@ impl Problem {
         requires { t < length self.now.types }
         ensures { result.now ≡ attributes_at self.now t }
     {
-        row_at(&self.tables.attributes, t)
+        row_at(self.tables.attributes.as_slice(), t)
     }
 
     /// The ports of type `t`, in the same order as attributes.
@@ -111,7 +111,7 @@ impl Problem {
         requires { t < length self.now.types }
         ensures { result.now ≡ ports_at self.now t }
     {
-        row_at(&self.tables.ports, t)
+        row_at(self.tables.ports.as_slice(), t)
     }
 
     /// The attribute that type `t` has under the id. A number that is no type has nothing.
@@ -126,7 +126,7 @@ impl Problem {
     pub fn port_of(&self, t: u32, id: u32) -> Option<&PortAt>
         ensures { option_copied result ≡ port_at self.now t id }
     {
-        find_port(row(&self.tables.ports, t), id)
+        find_port(row(self.tables.ports.as_slice(), t), id)
     }
 
     /// The words of the first declaration of an attribute that type `t` has, and none where it is
@@ -158,9 +158,9 @@ impl Problem {
 }
 
 /// The row of type `t`.
-fn row_at<T>(rows: &Items<Items<T>>, t: u32) -> &[T]
+fn row_at<T>(rows: &[Items<T>], t: u32) -> &[T]
     requires { t < length rows.now }
     ensures { result.now ≡ slice_index_or rows.now t [] }
 {
-    rows.as_slice()[t as usize].as_slice()
+    rows[t as usize].as_slice()
 }

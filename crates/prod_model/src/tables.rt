@@ -16,7 +16,7 @@ impl Tables {
         requires { AreTablesOf model.now self.now }
         ensures { option_copied result ≡ attribute_at model.now t id }
     {
-        find_attribute(row(&self.attributes, t), id)
+        find_attribute(row(self.attributes.as_slice(), t), id)
     }
 
     /// The port that type `t` has under the id, as it is declared: its inverse isn't told. A number
@@ -25,7 +25,7 @@ impl Tables {
         requires { AreTablesOf model.now self.now }
         ensures { result ≡ declared_port_of model.now t id }
     {
-        bare(find_port(row(&self.ports, t), id))
+        bare(find_port(row(self.ports.as_slice(), t), id))
     }
 
     /// The words of the first declaration of an attribute that type `t` has, and none where it is
@@ -81,7 +81,7 @@ pub(crate) fn find_port(row: &[PortAt], id: u32) -> Option<&PortAt>
 }
 
 /// A row, and an empty one where there is none.
-pub(crate) fn row<T>(rows: &Items<Items<T>>, at: u32) -> &[T]
+pub(crate) fn row<T>(rows: &[Items<T>], at: u32) -> &[T]
     ensures { result.now ≡ unwrap_or (slice_get rows.now at) [] }
 {
     match rows.get(at as usize) {

@@ -3,8 +3,9 @@
 ghost use Rattle.std.specs.Prelude.{◌≡◌, ◌≤◌, length, IfOk, codes, [], ◌∷◌};
 
 use crate::expr::{Expr, Relation};
-use crate::model::{Criterion, Domain, Model, Order, Request, Tables, TypeDecl};
+use crate::model::{AttrAt, Criterion, Domain, Model, Order, Request, Tables, TypeDecl};
 use crate::name::Name;
+use crate::port_rows::PortRows;
 use crate::problem::Problem;
 use crate::type_masks::TypeMasks;
 use sqlite_items::{Boxed, Items};
@@ -67,10 +68,18 @@ fn one_type(alloc: Global) -> Result<Items<TypeDecl>, AllocError>
     Ok(types)
 }
 
-fn no_rows<T: Drop>(alloc: Global) -> Result<Items<Items<T>>, AllocError>
+fn no_attributes(alloc: Global) -> Result<Items<Items<AttrAt>>, AllocError>
     ensures { IfOk result (λ rows. rows ≡ [] ∷ []) }
 {
     let mut rows = Items::new(alloc);
+    rows.push(Items::new(alloc))?;
+    Ok(rows)
+}
+
+fn no_ports(alloc: Global) -> Result<PortRows, AllocError>
+    ensures { IfOk result (λ rows. rows ≡ [] ∷ []) }
+{
+    let mut rows = PortRows::new(alloc);
     rows.push(Items::new(alloc))?;
     Ok(rows)
 }
@@ -79,8 +88,8 @@ fn one_type_problem(alloc: Global) -> Result<Problem, AllocError>
     ensures { IfOk result (λ m. length m.types ≡ 1) }
 {
     let types = one_type(alloc)?;
-    let attributes = no_rows(alloc)?;
-    let ports = no_rows(alloc)?;
+    let attributes = no_attributes(alloc)?;
+    let ports = no_ports(alloc)?;
     let model = Model {
         root: 0,
         instances: 1,

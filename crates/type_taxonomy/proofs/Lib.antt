@@ -9,6 +9,7 @@ pub mod FewDeclarations
 pub mod Inherited
 pub mod Items
 pub mod Lines
+pub mod LinkedPorts
 pub mod NarrowingLaws
 pub mod NearestCases
 mod NearestExamples

@@ -8,10 +8,9 @@ use Rattle.prod_model.specs.declared.model.PortDecl.{PortDecl}
 use Rattle.prod_model.specs.First.{IsFirst}
 use Rattle.prod_model.specs.Valid.{has_right_inverse, port_declarations}
 use Rattle.type_taxonomy.specs.declared.inverse_fault.InverseFault.{InverseFault}
-use Rattle.type_taxonomy.specs.declared.inverse_fault.InverseFault.TheVariants.{Bad, Memory}
+use Rattle.type_taxonomy.specs.declared.inverse_fault.InverseFault.TheVariants.{Bad}
 
--- The declaration at that place of the type names an inverse that is not right. Want of memory is
--- no fault.
+-- the declaration at that place of the type names an inverse that is not right
 pub record HasInverseFault (m : Model) (f : InverseFault) : Type 0 where
   pub kind : ℕ
   pub place : ℕ
@@ -23,7 +22,6 @@ pub record HasInverseFault (m : Model) (f : InverseFault) : Type 0 where
 -- by type, and then by place: in the order of the file
 abbrev pub rank_of : InverseFault → List ℕ
 rank_of (Bad kind place) = kind ∷ place ∷ []
-rank_of Memory = []
 
 -- the first fault comes before the second one
 abbrev pub IsInverseFaultBefore : InverseFault → InverseFault → Type 0
@@ -32,8 +30,3 @@ IsInverseFaultBefore f g = IsTrue (is_lt (slice_cmp nat_cmp (rank_of f) (rank_of
 -- the first fault of inverses that the model has
 abbrev pub IsFirstInverseFault : Model → InverseFault → Type 0
 IsFirstInverseFault m = IsFirst (HasInverseFault m) IsInverseFaultBefore
-
--- what a fault says of the model: it is the first one; want of memory says nothing
-abbrev pub InverseFaults : Model → InverseFault → Type 0
-InverseFaults m (Bad kind place) = IsFirstInverseFault m (Bad kind place)
-InverseFaults m Memory = Unit {0}

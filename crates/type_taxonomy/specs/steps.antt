@@ -5,5 +5,5 @@ pub mod Entries
 pub mod FirstFailing
 pub mod NearestTests
 pub mod Peer
-pub mod PortRows
+pub mod PortSearch
 pub mod TypeForest

@@ -1,8 +1,4 @@
 //! Why the inverses of a model's ports are not right.
-ghost use Rattle.std.specs.Prelude.{◌≡◌};
-ghost use Rattle.type_taxonomy.specs.declared.inverse_fault.InverseFault.TheVariants.{Memory};
-
-use std::alloc::AllocError;
 
 /// The first fault of the inverses that a model's ports name. Types and ports are counted from 0,
 /// in file order.
@@ -12,14 +8,4 @@ pub enum InverseFault {
     /// an inherited port, its target has no port of that name, the port of that name does not name
     /// it back, or both are parts.
     Bad { kind: u32, place: u32 },
-    /// Memory ran out.
-    Memory,
-}
-
-impl From<AllocError> for InverseFault {
-    ghost from_gives = { λ _ f. f ≡ Memory };
-
-    fn from(_e: AllocError) -> InverseFault {
-        InverseFault::Memory
-    }
 }

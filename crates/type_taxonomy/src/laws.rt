@@ -7,8 +7,7 @@ pub fn has_no_fault()
     ensures { HasNoFault }
 {}
 
-/// Right inverses have no fault, so `inverses` answers a fault exactly where there is one, want of
-/// memory aside.
+/// Right inverses have no fault, so `inverses` answers a fault exactly where there is one.
 pub fn has_no_inverse_fault()
     ensures { HasNoInverseFault }
 {}

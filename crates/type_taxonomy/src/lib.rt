@@ -15,7 +15,7 @@ mod line;
 mod named_inverses;
 mod narrowing;
 mod new_entries;
-mod ports;
+mod port_search;
 mod room;
 mod rows;
 mod tables;

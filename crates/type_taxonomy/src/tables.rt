@@ -5,7 +5,7 @@ ghost use Rattle.type_taxonomy.specs.steps.Built.{IsBuilt};
 
 use crate::entry::Entry;
 use crate::forest::Forest;
-use prod_model::{AttrAt, AttrDecl, Items, PortAt, PortDecl, Tables};
+use prod_model::{AttrAt, AttrDecl, Items, PortAt, PortDecl, PortRows, Tables};
 use std::alloc::{AllocError, Global};
 
 fn attributes_of(alloc: Global, row: &[Entry<AttrDecl>]) -> Result<Items<AttrAt>, AllocError>
@@ -51,14 +51,11 @@ fn all_attributes(
     Ok(table)
 }
 
-fn all_ports(
-    alloc: Global,
-    rows: &[Items<Entry<PortDecl>>],
-) -> Result<Items<Items<PortAt>>, AllocError>
+fn all_ports(alloc: Global, rows: &[Items<Entry<PortDecl>>]) -> Result<PortRows, AllocError>
     ensures { IfOk result (λ table. table
         ≡ map (map (λ e. made_port e.id e.declared.now)) rows.now) }
 {
-    let mut table = Items::new(alloc);
+    let mut table = PortRows::new(alloc);
     for row in rows {
         table.push(ports_of(alloc, row.as_slice())?)?;
     }

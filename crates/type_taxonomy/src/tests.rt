@@ -7,25 +7,36 @@ mod literals;
 use crate::fault::TaxFault;
 use crate::taxonomy::build;
 use answers::{answer_text, built};
-use literals::{formed_box, linked, many, plain, sized};
-use model_literals::{model_of, port, range, words};
+use literals::{Row, formed_box, kind, linked, many, plain, sized, worded};
+use model_literals::{AttributeLiteral, PortLiteral, TypeLiteral, Values, model_of, two};
 use prod_model::{Items, PortKind};
+use std::alloc::Global;
+use std::process::Abort;
 use std::test::Fail;
+
+fn check_each(rt: &impl Abort, alloc: Global, rows: &[Row]) -> Result<(), Fail> {
+    for (types, wanted) in rows {
+        let text = built(alloc, types)?;
+        assert_eq!(rt; text.as_str(), *wanted);
+    }
+    Ok(())
+}
+
+const UNKNOWN: [Row; 3] = [
+    (&[kind!(Some(7), [], [])], "UnknownParent { kind: 0 }"),
+    (&[], ""),
+    (
+        &[
+            kind!(None, [], []),
+            kind!(None, [], [linked!(b"door", Part, 2, 0, 1, None)]),
+        ],
+        "UnknownParent { kind: 1 }",
+    ),
+];
 
 #[test]
 fn knows_parents_and_targets(rt: HostRuntime) -> Result<(), Fail> {
-    let alloc = rt.alloc();
-    assert_eq!(rt;
-        built(alloc, &[plain(Some(7))])?.as_str(),
-        "UnknownParent { kind: 0 }"
-    );
-    assert_eq!(rt; built(alloc, &[])?.as_str(), "");
-    let door = port(b"door", PortKind::Part, 2, 0, 1);
-    assert_eq!(rt;
-        built(alloc, &[plain(None), linked(None, &[door])])?.as_str(),
-        "UnknownParent { kind: 1 }"
-    );
-    Ok(())
+    check_each(&rt, rt.alloc(), &UNKNOWN)
 }
 
 #[test]
@@ -40,278 +51,324 @@ fn builds_a_formed_model(rt: HostRuntime) -> Result<(), Fail> {
     Ok(())
 }
 
+const CIRCLES: [([Option<u32>; 4], &str); 6] = [
+    ([None, Some(1), None, None], "Cycle { kind: 1 }"),
+    ([None, Some(2), Some(1), None], "Cycle { kind: 1 }"),
+    // The first type is below the circle, and not in it.
+    ([Some(1), Some(2), Some(3), Some(1)], "Cycle { kind: 1 }"),
+    ([Some(2), Some(0), Some(3), Some(2)], "Cycle { kind: 2 }"),
+    (
+        [Some(1), Some(2), Some(3), None],
+        "( )( )( )( )( )( )( )( )",
+    ),
+    (
+        [Some(1), Some(0), None, Some(4)],
+        "UnknownParent { kind: 3 }",
+    ),
+];
+
+/// The answer at types with these parents and nothing else.
+fn built_over(alloc: Global, parents: &[Option<u32>]) -> Result<String, Fail> {
+    let mut types = Items::new(alloc);
+    for parent in parents {
+        types.push(plain(alloc, *parent)?)?;
+    }
+    answer_text(alloc, &model_of(alloc, 0, 1, types))
+}
+
 #[test]
 fn finds_circles(rt: HostRuntime) -> Result<(), Fail> {
-    let alloc = rt.alloc();
-    for (parents, want) in [
-        ([None, Some(1), None, None], "Cycle { kind: 1 }"),
-        ([None, Some(2), Some(1), None], "Cycle { kind: 1 }"),
-        // The first type is below the circle, and not in it.
-        ([Some(1), Some(2), Some(3), Some(1)], "Cycle { kind: 1 }"),
-        ([Some(2), Some(0), Some(3), Some(2)], "Cycle { kind: 2 }"),
-        (
-            [Some(1), Some(2), Some(3), None],
-            "( )( )( )( )( )( )( )( )",
-        ),
-        (
-            [Some(1), Some(0), None, Some(4)],
-            "UnknownParent { kind: 3 }",
-        ),
-    ] {
-        let kinds = [
-            plain(parents[0]),
-            plain(parents[1]),
-            plain(parents[2]),
-            plain(parents[3]),
-        ];
-        assert_eq!(rt; built(alloc, &kinds)?.as_str(), want);
+    for (parents, wanted) in CIRCLES {
+        let text = built_over(rt.alloc(), &parents)?;
+        assert_eq!(rt; text.as_str(), wanted);
     }
     Ok(())
 }
+
+const ATTRIBUTES: [Row; 3] = [
+    (
+        &[
+            kind!(None, [sized!(b"size", 1, 9)], []),
+            kind!(
+                Some(0),
+                [worded!(b"colour", [b"red", b"blue", b"grey"])],
+                []
+            ),
+            kind!(
+                Some(1),
+                [
+                    sized!(b"weight", 0, 1),
+                    worded!(b"colour", [b"grey", b"red"]),
+                    sized!(b"size", 2, 5),
+                ],
+                []
+            ),
+        ],
+        "( 0:1..9 )( 0:1..9 1:red|blue|grey| )( 0:2..5 1:grey|red| 2:0..1 )( )( )( )",
+    ),
+    (
+        &[
+            kind!(Some(1), [sized!(b"low", 0, 1), sized!(b"size", 3, 4)], []),
+            kind!(None, [sized!(b"size", 1, 9)], []),
+        ],
+        "( 1:3..4 0:0..1 )( 1:1..9 )( )( )",
+    ),
+    // Two trees.
+    (
+        &[
+            kind!(None, [sized!(b"size", 1, 2)], []),
+            kind!(None, [sized!(b"size", 5, 6)], []),
+            kind!(Some(1), [sized!(b"low", 0, 0)], []),
+        ],
+        "( 0:1..2 )( 1:5..6 )( 1:5..6 2:0..0 )( )( )( )",
+    ),
+];
 
 #[test]
 fn inherits_and_narrows_attributes(rt: HostRuntime) -> Result<(), Fail> {
-    let alloc = rt.alloc();
-    let above = [range(b"size", 1, 9)];
-    let middle = [words(b"colour", &[b"red", b"blue", b"grey"])];
-    let below = [
-        range(b"weight", 0, 1),
-        words(b"colour", &[b"grey", b"red"]),
-        range(b"size", 2, 5),
-    ];
-    let three_levels = [
-        sized(None, &above),
-        sized(Some(0), &middle),
-        sized(Some(1), &below),
-    ];
-    assert_eq!(rt;
-        built(alloc, &three_levels)?.as_str(),
-        "( 0:1..9 )( 0:1..9 1:red|blue|grey| )( 0:2..5 1:grey|red| 2:0..1 )( )( )( )"
-    );
-    let child = [range(b"low", 0, 1), range(b"size", 3, 4)];
-    assert_eq!(rt;
-        built(alloc, &[sized(Some(1), &child), sized(None, &above)])?.as_str(),
-        "( 1:3..4 0:0..1 )( 1:1..9 )( )( )"
-    );
-    Ok(())
+    check_each(&rt, rt.alloc(), &ATTRIBUTES)
 }
 
-#[test]
-fn keeps_trees_apart(rt: HostRuntime) -> Result<(), Fail> {
-    let alloc = rt.alloc();
-    let first = [range(b"size", 1, 2)];
-    let second = [range(b"size", 5, 6)];
-    let below_second = [range(b"low", 0, 0)];
-    let two_trees = [
-        sized(None, &first),
-        sized(None, &second),
-        sized(Some(1), &below_second),
-    ];
-    assert_eq!(rt;
-        built(alloc, &two_trees)?.as_str(),
-        "( 0:1..2 )( 1:5..6 )( 1:5..6 2:0..0 )( )( )( )"
-    );
-    Ok(())
-}
+const PORTS: [Row; 1] = [(
+    &[
+        kind!(None, [], [linked!(b"door", Part, 1, 0, 4, None)]),
+        kind!(None, [], []),
+        kind!(
+            Some(0),
+            [],
+            [
+                linked!(b"lamp", Shared, 0, 0, 1, None),
+                linked!(b"door", Part, 3, 1, 2, None),
+            ]
+        ),
+        kind!(Some(1), [], []),
+    ],
+    "( )( )( )( )( 0:part 1 0..4 )( )( 0:part 3 1..2 1:shared 0 0..1 )( )",
+)];
 
 #[test]
 fn inherits_and_narrows_ports(rt: HostRuntime) -> Result<(), Fail> {
-    let alloc = rt.alloc();
-    let above = [port(b"door", PortKind::Part, 1, 0, 4)];
-    let below = [
-        port(b"lamp", PortKind::Shared, 0, 0, 1),
-        port(b"door", PortKind::Part, 3, 1, 2),
-    ];
-    let kinds = [
-        linked(None, &above),
-        plain(None),
-        linked(Some(0), &below),
-        plain(Some(1)),
-    ];
-    assert_eq!(rt;
-        built(alloc, &kinds)?.as_str(),
-        "( )( )( )( )( 0:part 1 0..4 )( )( 0:part 3 1..2 1:shared 0 0..1 )( )"
-    );
-    Ok(())
+    check_each(&rt, rt.alloc(), &PORTS)
 }
+
+const WIDE_ATTRIBUTE: &str = "Widening { kind: 1, port: false, place: 0 }";
+
+const SIZE: TypeLiteral<'static> = kind!(None, [sized!(b"size", 1, 9)], []);
+
+const RANGES: [Row; 6] = [
+    (
+        &[SIZE, kind!(Some(0), [sized!(b"size", 0, 5)], [])],
+        WIDE_ATTRIBUTE,
+    ),
+    (
+        &[SIZE, kind!(Some(0), [sized!(b"size", 5, 10)], [])],
+        WIDE_ATTRIBUTE,
+    ),
+    (
+        &[SIZE, kind!(Some(0), [worded!(b"size", [b"red"])], [])],
+        WIDE_ATTRIBUTE,
+    ),
+    (
+        &[SIZE, kind!(Some(0), [sized!(b"size", 1, 9)], [])],
+        "( 0:1..9 )( 0:1..9 )( )( )",
+    ),
+    (
+        &[SIZE, kind!(Some(0), [sized!(b"size", 4, 4)], [])],
+        "( 0:1..9 )( 0:4..4 )( )( )",
+    ),
+    // A type below narrows what was widened above it, and stands first in the file.
+    (
+        &[
+            kind!(Some(1), [sized!(b"size", 2, 3)], []),
+            kind!(Some(2), [sized!(b"size", 0, 9)], []),
+            kind!(None, [sized!(b"size", 1, 8)], []),
+        ],
+        WIDE_ATTRIBUTE,
+    ),
+];
 
 #[test]
 fn refuses_wider_ranges(rt: HostRuntime) -> Result<(), Fail> {
-    let alloc = rt.alloc();
-    let wide = "Widening { kind: 1, port: false, place: 0 }";
-    let first = [range(b"size", 1, 9)];
-    for (again, want) in [
-        (range(b"size", 0, 5), wide),
-        (range(b"size", 5, 10), wide),
-        (words(b"size", &[b"red"]), wide),
-        (range(b"size", 1, 9), "( 0:1..9 )( 0:1..9 )( )( )"),
-        (range(b"size", 4, 4), "( 0:1..9 )( 0:4..4 )( )( )"),
-    ] {
-        let again = [again];
-        let kinds = [sized(None, &first), sized(Some(0), &again)];
-        assert_eq!(rt; built(alloc, &kinds)?.as_str(), want);
-    }
-    // A type below narrows what was widened above it, and stands first in the file.
-    let below = [range(b"size", 2, 3)];
-    let wider = [range(b"size", 0, 9)];
-    let above = [range(b"size", 1, 8)];
-    let chain = [
-        sized(Some(1), &below),
-        sized(Some(2), &wider),
-        sized(None, &above),
-    ];
-    assert_eq!(rt; built(alloc, &chain)?.as_str(), wide);
-    Ok(())
+    check_each(&rt, rt.alloc(), &RANGES)
 }
+
+const COLOUR: TypeLiteral<'static> = kind!(None, [worded!(b"colour", [b"red", b"blue"])], []);
+
+const WORDS: [Row; 4] = [
+    (
+        &[
+            COLOUR,
+            kind!(Some(0), [worded!(b"colour", [b"blue", b"green"])], []),
+        ],
+        WIDE_ATTRIBUTE,
+    ),
+    (
+        &[COLOUR, kind!(Some(0), [sized!(b"colour", 0, 1)], [])],
+        WIDE_ATTRIBUTE,
+    ),
+    (
+        &[COLOUR, kind!(Some(0), [worded!(b"colour", [b"blue"])], [])],
+        "( 0:red|blue| )( 0:blue| )( )( )",
+    ),
+    (
+        &[
+            COLOUR,
+            kind!(Some(0), [worded!(b"colour", [b"blue", b"red"])], []),
+        ],
+        "( 0:red|blue| )( 0:blue|red| )( )( )",
+    ),
+];
 
 #[test]
 fn refuses_wider_words(rt: HostRuntime) -> Result<(), Fail> {
-    let alloc = rt.alloc();
-    let wide = "Widening { kind: 1, port: false, place: 0 }";
-    let first = [words(b"colour", &[b"red", b"blue"])];
-    for (again, want) in [
-        (words(b"colour", &[b"blue", b"green"]), wide),
-        (range(b"colour", 0, 1), wide),
-        (
-            words(b"colour", &[b"blue"]),
-            "( 0:red|blue| )( 0:blue| )( )( )",
-        ),
-        (
-            words(b"colour", &[b"blue", b"red"]),
-            "( 0:red|blue| )( 0:blue|red| )( )( )",
-        ),
-    ] {
-        let again = [again];
-        let kinds = [sized(None, &first), sized(Some(0), &again)];
-        assert_eq!(rt; built(alloc, &kinds)?.as_str(), want);
-    }
-    Ok(())
+    check_each(&rt, rt.alloc(), &WORDS)
 }
 
 /// Where a type declares a name in the other sort than its parent does, and its child narrows it,
 /// it is the type that widens, and not the child, which comes first in the file.
+const NEAREST: [Row; 3] = [
+    (
+        &[
+            kind!(Some(1), [sized!(b"x", 0, 1)], []),
+            kind!(Some(2), [sized!(b"x", 0, 1)], []),
+            kind!(None, [], [linked!(b"x", Part, 2, 0, 1, None)]),
+        ],
+        WIDE_ATTRIBUTE,
+    ),
+    (
+        &[
+            kind!(Some(1), [], [linked!(b"x", Part, 2, 0, 1, None)]),
+            kind!(Some(2), [], [linked!(b"x", Part, 2, 0, 1, None)]),
+            kind!(None, [sized!(b"x", 0, 1)], []),
+        ],
+        "Widening { kind: 1, port: true, place: 0 }",
+    ),
+    // The grandchild is compared with the child, past a type that declares nothing.
+    (
+        &[
+            kind!(Some(1), [sized!(b"x", 0, 5)], []),
+            kind!(Some(2), [], []),
+            kind!(Some(3), [sized!(b"x", 1, 5)], []),
+            kind!(None, [sized!(b"x", 0, 9)], []),
+        ],
+        "Widening { kind: 0, port: false, place: 0 }",
+    ),
+];
+
 #[test]
 fn compares_with_the_nearest(rt: HostRuntime) -> Result<(), Fail> {
-    let alloc = rt.alloc();
-    let inner = [range(b"x", 0, 1)];
-    let link = [port(b"x", PortKind::Part, 2, 0, 1)];
-    let attributes_below = [
-        sized(Some(1), &inner),
-        sized(Some(2), &inner),
-        linked(None, &link),
-    ];
-    assert_eq!(rt;
-        built(alloc, &attributes_below)?.as_str(),
-        "Widening { kind: 1, port: false, place: 0 }"
-    );
-    let ports_below = [
-        linked(Some(1), &link),
-        linked(Some(2), &link),
-        sized(None, &inner),
-    ];
-    assert_eq!(rt;
-        built(alloc, &ports_below)?.as_str(),
-        "Widening { kind: 1, port: true, place: 0 }"
-    );
-    // The grandchild is compared with the child, past a type that declares nothing.
-    let grandchild = [range(b"x", 0, 5)];
-    let child = [range(b"x", 1, 5)];
-    let first = [range(b"x", 0, 9)];
-    let past_a_type = [
-        sized(Some(1), &grandchild),
-        plain(Some(2)),
-        sized(Some(3), &child),
-        sized(None, &first),
-    ];
-    assert_eq!(rt;
-        built(alloc, &past_a_type)?.as_str(),
-        "Widening { kind: 0, port: false, place: 0 }"
-    );
-    Ok(())
+    check_each(&rt, rt.alloc(), &NEAREST)
 }
+
+/// A type with a door, three types below it, the last of which declares the door again, and one
+/// below the first of them.
+macro_rules! doors {
+    ($kind:ident, $target:expr, $low:expr, $high:expr) => {
+        &[
+            kind!(None, [], [linked!(b"door", Part, 1, 1, 3, None)]),
+            kind!(Some(0), [], []),
+            kind!(Some(0), [], []),
+            kind!(
+                Some(0),
+                [],
+                [linked!(b"door", $kind, $target, $low, $high, None)]
+            ),
+            kind!(Some(1), [], []),
+        ]
+    };
+}
+
+const WIDE_PORT: &str = "Widening { kind: 3, port: true, place: 0 }";
+
+const DOORS: [Row; 7] = [
+    (doors!(Shared, 1, 1, 3), WIDE_PORT),
+    (doors!(Part, 1, 0, 3), WIDE_PORT),
+    (doors!(Part, 1, 1, 4), WIDE_PORT),
+    (
+        doors!(Part, 1, 2, 2),
+        "( )( )( )( )( )( 0:part 1 1..3 )( 0:part 1 1..3 )( 0:part 1 1..3 )\
+        ( 0:part 1 2..2 )( 0:part 1 1..3 )",
+    ),
+    // A sibling of the target, its parent, and a type under it.
+    (doors!(Part, 2, 1, 3), WIDE_PORT),
+    (doors!(Part, 0, 1, 3), WIDE_PORT),
+    (
+        doors!(Part, 4, 1, 3),
+        "( )( )( )( )( )( 0:part 1 1..3 )( 0:part 1 1..3 )( 0:part 1 1..3 )\
+        ( 0:part 4 1..3 )( 0:part 1 1..3 )",
+    ),
+];
 
 #[test]
 fn refuses_wider_ports(rt: HostRuntime) -> Result<(), Fail> {
-    let alloc = rt.alloc();
-    let wide = "Widening { kind: 3, port: true, place: 0 }";
-    let narrowed = "( )( )( )( )( )( 0:part 1 1..3 )( 0:part 1 1..3 )( 0:part 1 1..3 )\
-        ( 0:part 1 2..2 )( 0:part 1 1..3 )";
-    let aimed = "( )( )( )( )( )( 0:part 1 1..3 )( 0:part 1 1..3 )( 0:part 1 1..3 )\
-        ( 0:part 4 1..3 )( 0:part 1 1..3 )";
-    let first = [port(b"door", PortKind::Part, 1, 1, 3)];
-    for (kind, target, low, high, want) in [
-        (PortKind::Shared, 1, 1, 3, wide),
-        (PortKind::Part, 1, 0, 3, wide),
-        (PortKind::Part, 1, 1, 4, wide),
-        (PortKind::Part, 1, 2, 2, narrowed),
-        // A sibling of the target, its parent, and a type under it.
-        (PortKind::Part, 2, 1, 3, wide),
-        (PortKind::Part, 0, 1, 3, wide),
-        (PortKind::Part, 4, 1, 3, aimed),
-    ] {
-        let again = [port(b"door", kind, target, low, high)];
-        let kinds = [
-            linked(None, &first),
-            plain(Some(0)),
-            plain(Some(0)),
-            linked(Some(0), &again),
-            plain(Some(1)),
-        ];
-        assert_eq!(rt; built(alloc, &kinds)?.as_str(), want);
-    }
-    Ok(())
+    check_each(&rt, rt.alloc(), &DOORS)
 }
+
+const SORTS: [Row; 2] = [
+    (
+        &[
+            kind!(None, [], [linked!(b"door", Part, 0, 1, 3, None)]),
+            kind!(Some(0), [sized!(b"size", 0, 1), sized!(b"door", 0, 1)], []),
+        ],
+        "Widening { kind: 1, port: false, place: 1 }",
+    ),
+    (
+        &[
+            kind!(None, [sized!(b"door", 0, 1)], []),
+            kind!(Some(0), [], [linked!(b"door", Part, 0, 1, 3, None)]),
+        ],
+        "Widening { kind: 1, port: true, place: 0 }",
+    ),
+];
 
 #[test]
 fn tells_attributes_from_ports(rt: HostRuntime) -> Result<(), Fail> {
-    let alloc = rt.alloc();
-    let door = [port(b"door", PortKind::Part, 0, 1, 3)];
-    let size_and_door = [range(b"size", 0, 1), range(b"door", 0, 1)];
-    let attribute = [linked(None, &door), sized(Some(0), &size_and_door)];
-    assert_eq!(rt;
-        built(alloc, &attribute)?.as_str(),
-        "Widening { kind: 1, port: false, place: 1 }"
-    );
-    let sized_door = [range(b"door", 0, 1)];
-    let port = [sized(None, &sized_door), linked(Some(0), &door)];
-    assert_eq!(rt;
-        built(alloc, &port)?.as_str(),
-        "Widening { kind: 1, port: true, place: 0 }"
-    );
-    Ok(())
+    check_each(&rt, rt.alloc(), &SORTS)
+}
+
+/// The attributes and the ports of a type, and those that a type under it adds, and whether these
+/// are too many.
+const COUNTS: [((u8, u8), (u8, u8), bool); 10] = [
+    ((20, 0), (13, 0), true),
+    ((20, 0), (12, 0), false),
+    ((0, 0), (33, 0), true),
+    ((32, 0), (0, 0), false),
+    ((0, 10), (0, 7), true),
+    ((0, 10), (0, 6), false),
+    ((0, 0), (0, 17), true),
+    ((0, 16), (0, 0), false),
+    ((32, 16), (0, 0), false),
+    ((32, 10), (0, 7), true),
+];
+
+/// The answer at a type of so many attributes and ports, and one under it that adds so many.
+fn built_of(alloc: Global, above: (u8, u8), below: (u8, u8)) -> Result<String, Fail> {
+    let types = two(
+        alloc,
+        many(alloc, None, b'x', above)?,
+        many(alloc, Some(0), b'y', below)?,
+    )?;
+    answer_text(alloc, &model_of(alloc, 0, 1, types))
+}
+
+/// Whether the second type is told crowded, and not the tables.
+fn is_crowded(text: &str) -> Option<bool> {
+    if text == "Crowded { kind: 1 }" {
+        return Some(true);
+    }
+    if text.starts_with("( ") {
+        Some(false)
+    } else {
+        None
+    }
 }
 
 /// A type may have 32 attributes and 16 ports, inherited ones included.
 #[test]
 fn counts_inherited_entries(rt: HostRuntime) -> Result<(), Fail> {
-    let alloc = rt.alloc();
-    // The attributes and the ports of a type, and those that a type under it adds.
-    for (above, below, crowded) in [
-        ((20, 0), (13, 0), true),
-        ((20, 0), (12, 0), false),
-        ((0, 0), (33, 0), true),
-        ((32, 0), (0, 0), false),
-        ((0, 10), (0, 7), true),
-        ((0, 10), (0, 6), false),
-        ((0, 0), (0, 17), true),
-        ((0, 16), (0, 0), false),
-        ((32, 16), (0, 0), false),
-        ((32, 10), (0, 7), true),
-    ] {
-        let mut types = Items::new(alloc);
-        types.push(many(alloc, None, b'x', above)?)?;
-        types.push(many(alloc, Some(0), b'y', below)?)?;
-        let text = answer_text(alloc, &model_of(alloc, 0, 1, types))?;
-        assert_eq!(rt;
-            text.as_str() == "Crowded { kind: 1 }",
-            crowded,
-            "{above:?} and {below:?}"
-        );
-        assert_eq!(rt;
-            text.as_str().starts_with("( "),
-            !crowded,
-            "{above:?} and {below:?}"
-        );
+    for (above, below, crowded) in COUNTS {
+        let text = built_of(rt.alloc(), above, below)?;
+        assert_eq!(rt; is_crowded(text.as_str()), Some(crowded));
     }
     Ok(())
 }

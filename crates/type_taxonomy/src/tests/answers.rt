@@ -122,7 +122,7 @@ fn linked(alloc: Global, model: &Model) -> Option<(Result<(), InverseFault>, Tab
     let Ok(mut tables) = build_few(alloc, model) else {
         return None;
     };
-    let answer = inverses_few(alloc, model, &mut tables);
+    let answer = inverses_few(model, &mut tables);
     Some((answer, tables))
 }
 

@@ -1,29 +1,72 @@
 //! Ports that are each other's inverse, worked out by hand.
 use super::answers::{linked_text, write_all_ports};
-use super::literals::{formed_peer, linked, plain};
+use super::literals::{Row, formed_peer, kind, linked};
 use crate::named_inverses::inverses;
 use crate::taxonomy::build;
-use model_literals::{port, with_inverse};
+use model_literals::{PortLiteral, TypeLiteral};
 use prod_model::PortKind;
+use std::alloc::Global;
+use std::process::Abort;
 use std::test::Fail;
+
+fn check_each(rt: &impl Abort, alloc: Global, rows: &[Row]) -> Result<(), Fail> {
+    for (types, wanted) in rows {
+        let text = linked_text(alloc, types)?;
+        assert_eq!(rt; text.as_str(), *wanted);
+    }
+    Ok(())
+}
+
+const RACK: TypeLiteral<'static> = kind!(
+    None,
+    [],
+    [linked!(b"cards", Part, 1, 0, 2, Some(b"home"))]
+);
+
+const CARD: TypeLiteral<'static> = kind!(
+    None,
+    [],
+    [linked!(b"home", Shared, 0, 1, 1, Some(b"cards"))]
+);
+
+const PAIRS: [Row; 4] = [
+    (&[RACK, CARD], "( 0:part 1 0..2 =1 )( 1:shared 0 1..1 =0 )"),
+    // The target inherits the port.
+    (
+        &[
+            kind!(None, [], [linked!(b"cards", Part, 2, 0, 2, Some(b"home"))]),
+            CARD,
+            kind!(Some(1), [], []),
+        ],
+        "( 0:part 2 0..2 =1 )( 1:shared 0 1..1 =0 )( 1:shared 0 1..1 =0 )",
+    ),
+    // A narrowed port keeps its inverse.
+    (
+        &[
+            RACK,
+            CARD,
+            kind!(Some(0), [], [linked!(b"cards", Part, 1, 0, 1, None)]),
+        ],
+        "( 0:part 1 0..2 =1 )( 1:shared 0 1..1 =0 )( 0:part 1 0..1 =1 )",
+    ),
+    // A narrowing names none, not even the same.
+    (
+        &[
+            RACK,
+            CARD,
+            kind!(
+                Some(0),
+                [],
+                [linked!(b"cards", Part, 1, 0, 1, Some(b"home"))]
+            ),
+        ],
+        "Bad { kind: 2, place: 0 }( 0:part 1 0..2 )( 1:shared 0 1..1 )( 0:part 1 0..1 )",
+    ),
+];
 
 #[test]
 fn gives_each_port_its_inverse(rt: HostRuntime) -> Result<(), Fail> {
-    let alloc = rt.alloc();
-    let rack = [with_inverse(port(b"cards", PortKind::Part, 1, 0, 2), b"home")];
-    let card = [with_inverse(port(b"home", PortKind::Shared, 0, 1, 1), b"cards")];
-    assert_eq!(rt;
-        linked_text(alloc, &[linked(None, &rack), linked(None, &card)])?.as_str(),
-        "( 0:part 1 0..2 =1 )( 1:shared 0 1..1 =0 )"
-    );
-    // The target inherits the port.
-    let rack = [with_inverse(port(b"cards", PortKind::Part, 2, 0, 2), b"home")];
-    let kinds = [linked(None, &rack), linked(None, &card), plain(Some(1))];
-    assert_eq!(rt;
-        linked_text(alloc, &kinds)?.as_str(),
-        "( 0:part 2 0..2 =1 )( 1:shared 0 1..1 =0 )( 1:shared 0 1..1 =0 )"
-    );
-    Ok(())
+    check_each(&rt, rt.alloc(), &PAIRS)
 }
 
 #[test]
@@ -32,108 +75,84 @@ fn links_a_formed_model(rt: HostRuntime) -> Result<(), Fail> {
     let model = formed_peer(alloc)?;
     let mut text = String::new(alloc);
     if let Ok(mut tables) = build(alloc, &model) {
-        assert!(rt; inverses(alloc, &model, &mut tables).is_ok());
+        assert!(rt; inverses(&model, &mut tables).is_ok());
         write_all_ports(&mut text, &tables)?;
     }
     assert_eq!(rt; text.as_str(), "( 0:shared 0 0..1 =0 )");
     Ok(())
 }
 
-#[test]
-fn links_a_shared_port_with_itself(rt: HostRuntime) -> Result<(), Fail> {
-    let alloc = rt.alloc();
-    let peer = [with_inverse(port(b"peer", PortKind::Shared, 0, 0, 4), b"peer")];
-    assert_eq!(rt;
-        linked_text(alloc, &[linked(None, &peer)])?.as_str(),
-        "( 0:shared 0 0..4 =0 )"
-    );
-    let own_part = [with_inverse(port(b"peer", PortKind::Part, 0, 0, 4), b"peer")];
-    assert_eq!(rt;
-        linked_text(alloc, &[linked(None, &own_part)])?.as_str(),
-        "Bad { kind: 0, place: 0 }( 0:part 0 0..4 )"
-    );
-    Ok(())
-}
+const PEERS: [Row; 2] = [
+    (
+        &[kind!(None, [], [linked!(b"peer", Shared, 0, 0, 4, Some(b"peer"))])],
+        "( 0:shared 0 0..4 =0 )",
+    ),
+    (
+        &[kind!(None, [], [linked!(b"peer", Part, 0, 0, 4, Some(b"peer"))])],
+        "Bad { kind: 0, place: 0 }( 0:part 0 0..4 )",
+    ),
+];
 
 #[test]
-fn keeps_the_inverse_of_a_narrowed_port(rt: HostRuntime) -> Result<(), Fail> {
-    let alloc = rt.alloc();
-    let rack = [with_inverse(port(b"cards", PortKind::Part, 1, 0, 2), b"home")];
-    let card = [with_inverse(port(b"home", PortKind::Shared, 0, 1, 1), b"cards")];
-    let small = [port(b"cards", PortKind::Part, 1, 0, 1)];
-    let kinds = [
-        linked(None, &rack),
-        linked(None, &card),
-        linked(Some(0), &small),
-    ];
-    assert_eq!(rt;
-        linked_text(alloc, &kinds)?.as_str(),
-        "( 0:part 1 0..2 =1 )( 1:shared 0 1..1 =0 )( 0:part 1 0..1 =1 )"
-    );
-    // A narrowing names none, not even the same.
-    let again = [with_inverse(port(b"cards", PortKind::Part, 1, 0, 1), b"home")];
-    let kinds = [
-        linked(None, &rack),
-        linked(None, &card),
-        linked(Some(0), &again),
-    ];
-    assert_eq!(rt;
-        linked_text(alloc, &kinds)?.as_str(),
-        "Bad { kind: 2, place: 0 }( 0:part 1 0..2 )( 1:shared 0 1..1 )( 0:part 1 0..1 )"
-    );
-    Ok(())
+fn links_a_shared_port_with_itself(rt: HostRuntime) -> Result<(), Fail> {
+    check_each(&rt, rt.alloc(), &PEERS)
 }
+
+/// A rack with a spare port and one for cards, and a card.
+macro_rules! wrong {
+    ($there:expr, $kind:ident, $back:expr) => {
+        &[
+            kind!(
+                None,
+                [],
+                [
+                    linked!(b"spare", Shared, 1, 0, 1, None),
+                    linked!(b"cards", Part, 1, 0, 2, $there),
+                ]
+            ),
+            kind!(None, [], [linked!(b"home", $kind, 0, 1, 1, $back)]),
+        ]
+    };
+}
+
+/// The tables stay as they are.
+const STAYS: &str = "Bad { kind: 0, place: 1 }( 0:shared 1 0..1 1:part 1 0..2 )( 2:shared 0 1..1 )";
+
+const WRONG: [Row; 4] = [
+    // No port of that name, no inverse back, another one back, and two parts.
+    (wrong!(Some(b"slot"), Shared, Some(b"cards")), STAYS),
+    (wrong!(Some(b"home"), Shared, None), STAYS),
+    (wrong!(Some(b"home"), Shared, Some(b"spare")), STAYS),
+    (
+        wrong!(Some(b"home"), Part, Some(b"cards")),
+        "Bad { kind: 0, place: 1 }( 0:shared 1 0..1 1:part 1 0..2 )( 2:part 0 1..1 )",
+    ),
+];
 
 #[test]
 fn refuses_wrong_inverses(rt: HostRuntime) -> Result<(), Fail> {
-    let alloc = rt.alloc();
-    let cards = port(b"cards", PortKind::Part, 1, 0, 2);
-    let spare = port(b"spare", PortKind::Shared, 1, 0, 1);
-    let home = port(b"home", PortKind::Shared, 0, 1, 1);
-    let home_part = port(b"home", PortKind::Part, 0, 1, 1);
-    for (there, back) in [
-        // No port of that name, no inverse back, another one back, and two parts.
-        (with_inverse(cards, b"slot"), with_inverse(home, b"cards")),
-        (with_inverse(cards, b"home"), home),
-        (with_inverse(cards, b"home"), with_inverse(home, b"spare")),
-        (
-            with_inverse(cards, b"home"),
-            with_inverse(home_part, b"cards"),
-        ),
-    ] {
-        let rack = [spare, there];
-        let card = [back];
-        let text = linked_text(alloc, &[linked(None, &rack), linked(None, &card)])?;
-        // The tables stay as they are.
-        assert!(rt;
-            text.as_str().starts_with(
-                "Bad { kind: 0, place: 1 }( 0:shared 1 0..1 1:part 1 0..2 )( 2:"
-            )
-        );
-        assert!(rt; text.as_str().ends_with(" 0 1..1 )"));
-    }
-    Ok(())
+    check_each(&rt, rt.alloc(), &WRONG)
 }
+
+const FIRST_WRONG: [Row; 1] = [(
+    &[
+        kind!(None, [], [linked!(b"peer", Shared, 0, 0, 4, Some(b"peer"))]),
+        kind!(
+            None,
+            [],
+            [
+                linked!(b"shelf", Shared, 0, 0, 1, None),
+                linked!(b"lamp", Shared, 0, 0, 1, Some(b"none")),
+                linked!(b"door", Shared, 0, 0, 1, Some(b"none")),
+            ]
+        ),
+        kind!(None, [], [linked!(b"rail", Shared, 0, 0, 1, Some(b"none"))]),
+    ],
+    "Bad { kind: 1, place: 1 }( 0:shared 0 0..4 )\
+    ( 1:shared 0 0..1 2:shared 0 0..1 3:shared 0 0..1 )( 4:shared 0 0..1 )",
+)];
 
 #[test]
 fn tells_the_first_wrong_inverse(rt: HostRuntime) -> Result<(), Fail> {
-    let alloc = rt.alloc();
-    let right = [with_inverse(port(b"peer", PortKind::Shared, 0, 0, 4), b"peer")];
-    let second_wrong = [
-        port(b"shelf", PortKind::Shared, 0, 0, 1),
-        with_inverse(port(b"lamp", PortKind::Shared, 0, 0, 1), b"none"),
-        with_inverse(port(b"door", PortKind::Shared, 0, 0, 1), b"none"),
-    ];
-    let wrong = [with_inverse(port(b"rail", PortKind::Shared, 0, 0, 1), b"none")];
-    let kinds = [
-        linked(None, &right),
-        linked(None, &second_wrong),
-        linked(None, &wrong),
-    ];
-    let text = linked_text(alloc, &kinds)?;
-    assert!(rt;
-        text.as_str()
-            .starts_with("Bad { kind: 1, place: 1 }( 0:shared 0 0..4 )")
-    );
-    Ok(())
+    check_each(&rt, rt.alloc(), &FIRST_WRONG)
 }

@@ -4,25 +4,72 @@ ghost use Rattle.prod_model.specs.Valid.{IsFormed};
 ghost use Rattle.type_taxonomy.specs.steps.Peer.{peer};
 
 use model_literals::{
-    AttributeLiteral, PortLiteral, TypeLiteral, attribute_of, model_of, name_of, one, port,
-    port_of, range, type_literal, type_of, with_inverse,
+    TypeLiteral, attribute_of, model_of, name_of, one, port, port_of, range, type_literal, type_of,
+    with_inverse,
 };
 use prod_model::{AttrDecl, Items, Model, PortDecl, PortKind, TypeDecl};
 use std::alloc::{AllocError, Global};
 
-pub(super) fn plain(parent: Option<u32>) -> TypeLiteral<'static> {
-    type_literal(b"Kind", parent, &[], &[])
+/// Types, and what is told of them.
+pub(super) type Row = (&'static [TypeLiteral<'static>], &'static str);
+
+/// A type with its parent, its attributes and its ports.
+macro_rules! kind {
+    ($parent:expr, $attributes:expr, $ports:expr) => {
+        TypeLiteral {
+            name: b"Kind",
+            parent: $parent,
+            attributes: &$attributes,
+            ports: &$ports,
+        }
+    };
 }
 
-pub(super) fn sized<'a>(
-    parent: Option<u32>,
-    attributes: &'a [AttributeLiteral<'a>],
-) -> TypeLiteral<'a> {
-    type_literal(b"Kind", parent, attributes, &[])
+pub(super) use kind;
+
+/// An attribute of whole numbers.
+macro_rules! sized {
+    ($name:expr, $low:expr, $high:expr) => {
+        AttributeLiteral {
+            name: $name,
+            values: Values::Between($low, $high),
+        }
+    };
 }
 
-pub(super) fn linked<'a>(parent: Option<u32>, ports: &'a [PortLiteral<'a>]) -> TypeLiteral<'a> {
-    type_literal(b"Kind", parent, &[], ports)
+pub(super) use sized;
+
+/// An attribute of words.
+macro_rules! worded {
+    ($name:expr, $words:expr) => {
+        AttributeLiteral {
+            name: $name,
+            values: Values::OneOf(&$words),
+        }
+    };
+}
+
+pub(super) use worded;
+
+/// A port, with its inverse if it names one.
+macro_rules! linked {
+    ($name:expr, $kind:ident, $target:expr, $low:expr, $high:expr, $inverse:expr) => {
+        PortLiteral {
+            name: $name,
+            kind: PortKind::$kind,
+            target: $target,
+            low: $low,
+            high: $high,
+            inverse: $inverse,
+        }
+    };
+}
+
+pub(super) use linked;
+
+/// A type with this parent and nothing else.
+pub(super) fn plain(alloc: Global, parent: Option<u32>) -> Result<TypeDecl, AllocError> {
+    type_of(alloc, &type_literal(b"Kind", parent, &[], &[]))
 }
 
 /// One type, whose parent is no type.
