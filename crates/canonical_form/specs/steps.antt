@@ -1,3 +1,4 @@
+pub mod Bikes
 pub mod FirstDeclared
 pub mod FirstRows
 pub mod Grammar
