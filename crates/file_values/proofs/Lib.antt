@@ -1,0 +1,10 @@
+pub mod FormLaws
+pub mod GroupLaws
+pub mod KnownKeys
+pub mod MemberLaws
+pub mod NameLaws
+pub mod PlaceOrder
+pub mod RepeatLaws
+pub mod Searching
+pub mod TableLaws
+pub mod TextLaws

@@ -1,0 +1,11 @@
+pub mod Places
+pub mod Codes
+pub mod FaultOrder
+pub mod Table
+pub mod Read
+pub mod Inside
+pub mod Kinds
+pub mod Tests
+pub mod Twice
+pub mod Forms
+pub mod steps
