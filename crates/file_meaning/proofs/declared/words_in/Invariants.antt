@@ -1,0 +1,8 @@
+use Rattle.std.proofs.Common.{◌≡◌, map, take}
+use Rattle.serde_json.specs.View.{view}
+use Rattle.file_meaning.specs.ModelOf.{word_in}
+use Rattle.file_meaning.proofs.declared.words_in.Given as goal
+
+-- what the values before this one say
+abbrev pub invariant-loop-value : goal.invariant-loop-value
+invariant-loop-value l = l.words ≡ map word_in (map view (take l.value-index l.list))

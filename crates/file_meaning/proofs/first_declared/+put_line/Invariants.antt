@@ -1,0 +1,4 @@
+use Rattle.file_meaning.proofs.first_declared.+put_line.Given as goal
+
+abbrev pub decreases-put_line : goal.decreases-put_line
+decreases-put_line l = l.most

@@ -1,0 +1,7 @@
+pub mod Expressions
+pub mod ModelOf
+pub mod Faults
+pub mod Stands
+pub mod Refused
+pub mod Laws
+pub mod steps

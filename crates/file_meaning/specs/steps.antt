@@ -1,0 +1,4 @@
+pub mod Judged
+pub mod Names
+pub mod FirstDeclared
+pub mod Built

@@ -1,0 +1,16 @@
+//! What a model or order file stands for, and its faults.
+#![tactic(auto)]
+
+mod built;
+mod declared;
+mod expression;
+mod first_declared;
+mod judge;
+pub mod laws;
+mod look_ups;
+mod reading;
+mod refusal;
+
+pub use declared::declared_in;
+pub use expression::{judge_expr, read_expr};
+pub use refusal::Refusal;
