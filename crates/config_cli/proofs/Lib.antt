@@ -11,6 +11,5 @@ pub mod PreferredLaws
 pub mod CommandLaws
 pub mod OutcomeLaws
 pub mod RunLaws
-pub mod OrderLaws
 pub mod Wishes
 pub mod StatusLaws

@@ -22,7 +22,7 @@ use Rattle.config_value.specs.Shaped.{is_shaped, has_leaf_types, has_root, has_s
 use Rattle.config_value.specs.Numbered.{Link, is_numbered, is_mentioned_lower, is_mentioned_before}
 use Rattle.config_value.specs.Satisfies.{follows_rules, satisfies}
 use Rattle.canonical_form.proofs.SpelledPaths.{length_pointwise}
-use Rattle.model_reader.specs.Plain.{is_range, is_plain_comparison}
+use Rattle.config_cli.specs.Plain.{is_range, is_plain_comparison}
 use Rattle.config_cli.specs.steps.Sides.{is_met, meets_rules}
 use Rattle.config_cli.specs.steps.Walk.{is_in_ranges, one_instance, IsChoice}
 use Rattle.config_cli.proofs.OneType.{one_type, IsPlainParts}

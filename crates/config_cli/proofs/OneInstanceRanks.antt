@@ -12,7 +12,7 @@ use Rattle.prod_model.specs.declared.model.Criterion.{Criterion}
 use Rattle.prod_model.specs.declared.expr.Expr.TheViews.{out-Expr}
 use Rattle.config_value.specs.Value.{value_of, number_at}
 use Rattle.config_value.specs.Rank.{key, key_order, rank, rank_order}
-use Rattle.model_reader.specs.Plain.{is_plain_side}
+use Rattle.config_cli.specs.Plain.{is_plain_side}
 use Rattle.config_cli.specs.steps.Sides.{side_value, criterion_order, criteria_order, values_order}
 use Rattle.config_cli.specs.steps.Walk.{one_instance}
 use Rattle.config_cli.proofs.SideLaws.{number_at_one_instance}

@@ -10,7 +10,7 @@ use Rattle.prod_model.specs.declared.model.AttrDecl.{AttrDecl}
 use Rattle.prod_model.specs.declared.model.Rule.{Rule}
 use Rattle.prod_model.specs.declared.expr.Expr.TheViews.{out-Expr}
 use Rattle.prod_model.specs.Valid.{IsValid, has_known_types, has_numbers_in_limits, has_ends, is_pair}
-use Rattle.model_reader.specs.Plain.{is_plain, is_plain_type, is_range, is_plain_comparison, has_one}
+use Rattle.config_cli.specs.Plain.{is_plain, is_plain_type, is_range, is_plain_comparison, has_one}
 
 -- a model of one type that has nothing but attributes
 abbrev pub one_type : ℕ → List ℕ → List AttrDecl → List Rule → Model

@@ -8,20 +8,20 @@ use Rattle.prod_model.specs.declared.model.Model.{Model}
 use Rattle.prod_model.specs.declared.model.Order.{Order}
 use Rattle.prod_model.specs.declared.model.Request.{Request}
 use Rattle.prod_model.specs.declared.expr.Expr.TheViews.{out-Expr}
-use Rattle.model_reader.specs.Plain.{is_plain_side}
-use Rattle.model_reader.specs.Files.{IsFileOf}
-use Rattle.model_reader.specs.PlainFile.{plain_model}
-use Rattle.model_reader.specs.Refused.{RefusesFile}
-use Rattle.model_reader.specs.declared.fault.Refusal.{Refusal}
-use Rattle.model_reader.specs.declared.fault.Refusal.TheVariants.{Fault, Memory}
+use Rattle.serde_json.specs.Data.{Data}
+use Rattle.file_values.specs.declared.fault.Fault.{Fault as AFault}
+use Rattle.file_meaning.specs.declared.refusal.Refusal.{Refusal}
+use Rattle.file_meaning.specs.declared.refusal.Refusal.TheVariants.{Fault, Memory}
+use Rattle.file_meaning.specs.Faults.{HasModelFault, HasOrderFault}
+use Rattle.file_meaning.specs.Refused.{IsRefusalOfFile}
+use Rattle.file_meaning.proofs.KnownKeys.{Known, known_in_file}
 use Rattle.config_value.specs.declared.configuration.Instance.{Instance}
 use Rattle.config_value.specs.Satisfies.{IsCandidate, all_kept}
 use Rattle.config_value.specs.Conflict.{IsPreferredConflict, IsAntilexSmaller}
-use Rattle.config_cli.specs.PlainOrder.{plain_order, attributes_declared}
-use Rattle.config_cli.specs.steps.Sides.{is_plain_order}
-use Rattle.config_cli.specs.steps.Fetched.{Refuses}
+use Rattle.config_cli.specs.Plain.{is_plain, is_plain_order, is_plain_side}
+use Rattle.config_cli.specs.steps.Fetched.{Refuses, HasKnownPlace}
 use Rattle.config_cli.specs.declared.status.Status.{Status}
-use Rattle.config_cli.specs.Results.{IsConfigured, refused_model, refused_order}
+use Rattle.config_cli.specs.Results.{IsConfigured, IsModelFile, refused_model, refused_order}
 
 -- a plain order has no requests
 pub no_requests : (o : Order) → IsTrue (is_plain_order o) → o.requests ≡ []
@@ -44,12 +44,18 @@ empty_conflict m o e none = record {
 }
 
 -- the line of a refused model is the result
-pub model_refused : (model order : List ℕ) (e : Refusal) (status : Status) (text : List ℕ) → RefusesFile plain_model model e → Refuses (codes "model") e status text → IsConfigured model order status text
-model_refused model order (Fault f) status text fault line = refused_model f.code fault.1 line.0 line.1
+pub model_refused : (model order : List ℕ) (e : Refusal) (status : Status) (text : List ℕ) → IsRefusalOfFile HasModelFault model e → Refuses (codes "model") e status text → IsConfigured model order status text
+model_refused model order (Fault f) status text fault line = refused_model f fault line.0 line.1
 model_refused model order (Memory e) status text fault line = absurd line
 
 -- the line of a refused order is the result, where the model is accepted
-pub order_refused : (m : Model) (model order : List ℕ) (e : Refusal) (status : Status) (text : List ℕ) → IsFileOf plain_model model m
-    → RefusesFile (plain_order (attributes_declared m)) order e → Refuses (codes "order") e status text → IsConfigured model order status text
-order_refused m model order (Fault f) status text accepted fault line = refused_order m accepted f.code fault.1 line.0 line.1
-order_refused m model order (Memory e) status text accepted fault line = absurd line
+pub order_refused : (m : Model) (model order : List ℕ) (e : Refusal) (status : Status) (text : List ℕ) → IsModelFile model m → IsTrue (is_plain m)
+    → IsRefusalOfFile (HasOrderFault m) order e → Refuses (codes "order") e status text → IsConfigured model order status text
+order_refused m model order (Fault f) status text accepted plain fault line = refused_order m accepted plain f fault line.0 line.1
+order_refused m model order (Memory e) status text accepted plain fault line = absurd line
+
+-- the place of a refusal has keys of the list alone
+pub known_place : (HasFault : Data → AFault → Type 0) → ((d : Data) (f : AFault) → HasFault d f → Known f.place)
+    → (bytes : List ℕ) (e : Refusal) → IsRefusalOfFile HasFault bytes e → HasKnownPlace e
+known_place HasFault known bytes (Fault f) fault = known_in_file HasFault known bytes f fault
+known_place HasFault known bytes (Memory e) fault = tt

@@ -26,7 +26,7 @@ use Rattle.config_value.specs.Satisfies.{IsCandidate, meets, meets_kept, all_kep
 use Rattle.config_value.specs.Rank.{RanksBefore}
 use Rattle.config_value.specs.Preferred.{IsPreferred}
 use Rattle.canonical_form.proofs.SpelledPaths.{length_pointwise}
-use Rattle.model_reader.specs.Plain.{is_plain, is_plain_side}
+use Rattle.config_cli.specs.Plain.{is_plain, is_plain_side}
 use Rattle.config_cli.specs.steps.Sides.{values_order}
 use Rattle.config_cli.specs.steps.BestFound.{Among}
 use Rattle.config_cli.specs.steps.Walk.{is_in_ranges, one_instance, IsChoice, FindsFirst}

@@ -9,7 +9,7 @@ use Rattle.prod_model.specs.declared.expr.Expr.TheViews.{out-Expr}
 use Rattle.prod_model.specs.declared.expr.Expr.TheFolds.{fold-Expr, fold_out-Expr}
 use Rattle.config_value.specs.declared.found.Found.{Found}
 use Rattle.config_value.specs.Value.{value_at, layer_value, value_of, as_number, as_truth, number_at, is_true_at, holds}
-use Rattle.model_reader.specs.Plain.{is_plain_side, is_plain_comparison}
+use Rattle.config_cli.specs.Plain.{is_plain_side, is_plain_comparison}
 use Rattle.config_cli.specs.steps.Sides.{side_value, is_met}
 use Rattle.config_cli.specs.steps.Walk.{one_instance}
 

@@ -1,5 +1,5 @@
 pub mod Commands
-pub mod PlainOrder
+pub mod Plain
 pub mod Texts
 pub mod Statuses
 pub mod Results

@@ -1,20 +1,21 @@
 -- What words and files result in: a status and a text.
-use Rattle.std.specs.Prelude.{◌≡◌, ℕ, ◌+◌, Bool, true, false, List, [], ◌∷◌, Some, codes}
+use Rattle.std.specs.Prelude.{◌≡◌, ℕ, ◌+◌, Bool, true, false, IsTrue, IsFalse, List, [], ◌∷◌, Some, codes}
 use Rattle.prod_model.specs.declared.model.Model.{Model}
 use Rattle.prod_model.specs.declared.model.Order.{Order}
+use Rattle.prod_model.specs.Valid.{IsValid, IsValidOrder}
 use Rattle.config_value.specs.declared.configuration.Instance.{Instance}
 use Rattle.config_value.specs.Satisfies.{all_kept}
 use Rattle.config_value.specs.Preferred.{IsPreferred}
 use Rattle.config_value.specs.Conflict.{IsPreferredConflict}
-use Rattle.model_reader.specs.declared.fault.FaultCode.{FaultCode}
-use Rattle.model_reader.specs.Files.{IsFileOf, IsFaultOf}
-use Rattle.model_reader.specs.PlainFile.{plain_model}
+use Rattle.file_values.specs.declared.fault.Fault.{Fault}
+use Rattle.file_meaning.specs.Faults.{HasModelFault, HasOrderFault, IsFaultOfFile}
+use Rattle.file_meaning.specs.Stands.{StandsForModel, StandsForOrder, IsFileFor}
 use Rattle.canonical_form.specs.AnswerText.{answer_text}
 use Rattle.canonical_form.specs.ConflictText.{conflict_text}
 use Rattle.cfg_io.specs.Shelves.{file}
 use Rattle.config_cli.specs.Commands.{Configure, Asks, AsksNothing}
-use Rattle.config_cli.specs.PlainOrder.{plain_order, attributes_declared}
-use Rattle.config_cli.specs.Texts.{usage_text, refused_text}
+use Rattle.config_cli.specs.Plain.{is_plain, is_plain_order}
+use Rattle.config_cli.specs.Texts.{usage_text, refused_text, unsupported_text}
 use Rattle.config_cli.specs.declared.status.Status.{Status}
 use Rattle.config_cli.specs.declared.status.Status.TheVariants.{Preferred, Conflict, Usage, Refused}
 
@@ -33,18 +34,36 @@ pub data IsPreferredOutcome (m : Model) (o : Order) (status : Status) (text : Li
       → status ≡ Conflict → text ≡ conflict_text o (places_kept 0 keep)
       → IsPreferredOutcome m o status text
 
--- What the bytes of a model and an order result in: the fault of the model, else that of the
--- order, else the preferred outcome.
+-- the bytes are a model file without fault, and stand for this model
+pub record IsModelFile (bytes : List ℕ) (m : Model) : Type 0 where
+  pub stands : IsFileFor StandsForModel bytes m
+  pub valid : IsValid m
+
+-- the bytes are an order file without fault for a model, and stand for this order
+pub record IsOrderFile (m : Model) (bytes : List ℕ) (o : Order) : Type 0 where
+  pub stands : IsFileFor (StandsForOrder m) bytes o
+  pub valid : IsValidOrder m o
+
+-- What the bytes of a model and an order result in: the first fault of the model; else, where the
+-- model isn't plain, that it can't be configured yet; else the same of the order; else the preferred
+-- outcome.
 pub data IsConfigured (model order : List ℕ) (status : Status) (text : List ℕ) : Type 0 where
-  refused_model : (code : FaultCode) → IsFaultOf plain_model model code
-      → status ≡ Refused → text ≡ refused_text (codes "model") code
+  refused_model : (f : Fault) → IsFaultOfFile HasModelFault model f
+      → status ≡ Refused → text ≡ refused_text (codes "model") f.code f.place
       → IsConfigured model order status text
-  refused_order : (m : Model) → IsFileOf plain_model model m
-      → (code : FaultCode) → IsFaultOf (plain_order (attributes_declared m)) order code
-      → status ≡ Refused → text ≡ refused_text (codes "order") code
+  unsupported_model : (m : Model) → IsModelFile model m → IsFalse (is_plain m)
+      → status ≡ Refused → text ≡ unsupported_text (codes "model")
       → IsConfigured model order status text
-  preferred_outcome : (m : Model) → IsFileOf plain_model model m
-      → (o : Order) → IsFileOf (plain_order (attributes_declared m)) order o
+  refused_order : (m : Model) → IsModelFile model m → IsTrue (is_plain m)
+      → (f : Fault) → IsFaultOfFile (HasOrderFault m) order f
+      → status ≡ Refused → text ≡ refused_text (codes "order") f.code f.place
+      → IsConfigured model order status text
+  unsupported_order : (m : Model) → IsModelFile model m → IsTrue (is_plain m)
+      → (o : Order) → IsOrderFile m order o → IsFalse (is_plain_order o)
+      → status ≡ Refused → text ≡ unsupported_text (codes "order")
+      → IsConfigured model order status text
+  preferred_outcome : (m : Model) → IsModelFile model m → IsTrue (is_plain m)
+      → (o : Order) → IsOrderFile m order o → IsTrue (is_plain_order o)
       → IsPreferredOutcome m o status text → IsConfigured model order status text
 
 -- What words and named files result in. Nothing where a file that they ask for isn't there.

@@ -1,7 +1,9 @@
 -- The texts that are written, but for the answer and the conflict.
 use Rattle.std.specs.Prelude.{ℕ, ◌+◌, ◌/◌, ◌%◌, List, [], ◌∷◌, ◌++◌, codes}
-use Rattle.model_reader.specs.declared.fault.FaultCode.{FaultCode}
-use Rattle.model_reader.specs.Codes.{number_of}
+use Rattle.file_values.specs.declared.fault.FaultCode.{FaultCode}
+use Rattle.file_values.specs.declared.part.Part.{Part}
+use Rattle.file_values.specs.Codes.{number_of}
+use Rattle.file_values.specs.Places.{place_text}
 use Rattle.canonical_form.specs.AnswerText.{line_end}
 
 -- the line for words that are none of the accepted forms
@@ -14,7 +16,12 @@ usage_text =
 abbrev pub code_text : ℕ → List ℕ
 code_text code = codes "F" ++ (48 + code / 10) ∷ (48 + code % 10) ∷ []
 
--- a refused file, the code of its fault, and the place of the whole document
-unfoldable pub refused_text : List ℕ → FaultCode → List ℕ
-refused_text file code =
-    codes "refused " ++ file ++ codes " " ++ code_text (number_of code) ++ codes " /" ++ line_end
+-- a refused file, with the code and the place of its fault
+unfoldable pub refused_text : List ℕ → FaultCode → List Part → List ℕ
+refused_text file code place =
+    codes "refused " ++ file ++ codes " " ++ code_text (number_of code)
+    ++ codes " " ++ place_text place ++ line_end
+
+-- a file without fault that can't be configured yet
+unfoldable pub unsupported_text : List ℕ → List ℕ
+unsupported_text file = codes "refused " ++ file ++ codes " F90 /" ++ line_end

@@ -5,8 +5,8 @@
 ghost use Rattle.std.specs.Prelude.{◌≡◌, ◌⊎◌};
 
 mod commands;
-mod order;
 mod outcome;
+mod plain;
 mod run;
 mod status;
 mod texts;

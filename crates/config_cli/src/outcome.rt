@@ -1,22 +1,21 @@
 // What the files of a command result in.
 ghost use Rattle.std.specs.Prelude.{◌≡◌, ℕ, List, IfErr, IfOk, IsTrue};
 ghost use Rattle.prod_model.specs.Valid.{IsValidOrder};
-ghost use Rattle.model_reader.specs.Files.{IsFileOf};
-ghost use Rattle.model_reader.specs.Plain.{is_plain};
-ghost use Rattle.model_reader.specs.PlainFile.{plain_model};
-ghost use Rattle.model_reader.specs.Refused.{RefusesFile};
-ghost use Rattle.config_cli.specs.PlainOrder.{attributes_declared, plain_order};
-ghost use Rattle.config_cli.specs.Results.{IsConfigured, IsPreferredOutcome};
-ghost use Rattle.config_cli.specs.steps.Calls.{IsOfOutcome};
-ghost use Rattle.config_cli.specs.steps.Fetched.{ForFile, IsFetchOf, Refuses};
-ghost use Rattle.config_cli.specs.steps.Sides.{is_plain_order};
+ghost use Rattle.file_meaning.specs.Faults.{HasModelFault, HasOrderFault};
+ghost use Rattle.file_meaning.specs.Refused.{IsRefusalOfFile};
+ghost use Rattle.config_cli.specs.Plain.{is_plain, is_plain_order};
+ghost use Rattle.config_cli.specs.Results.{IsConfigured, IsModelFile, IsOrderFile, IsPreferredOutcome};
+ghost use Rattle.config_cli.specs.Texts.{unsupported_text};
+ghost use Rattle.config_cli.specs.steps.Calls.{IsExactly, IsOfOutcome};
+ghost use Rattle.config_cli.specs.steps.Fetched.{ForFile, HasKnownPlace, IsFetchOf, Refuses};
 
-use crate::order::read_order;
+use crate::plain::{is_plain, is_plain_order};
 use crate::status::Status;
-use crate::texts::refused_text;
+use crate::texts::{refused_text, unsupported_text};
 use crate::walk::preferred_plain;
 use canonical_form::{write_answer, write_conflict};
 use model_reader::{Refusal, read_model, too_long};
+use order_reader::read_order;
 use prod_model::{Order, Problem};
 use std::alloc::{AllocError, Global};
 
@@ -36,9 +35,10 @@ pub struct Outcome {
 }
 
 fn open_model(alloc: Global, file: Fetched) -> Result<Problem, Refusal>
-    ensures plain { IfOk result (λ p. IsTrue (is_plain p)) }
-    ensures model { IfOk result (λ p. ForFile (λ bytes. IsFileOf plain_model bytes p) file) }
-    ensures fault { IfErr result (λ e. ForFile (λ bytes. RefusesFile plain_model bytes e) file) }
+    ensures model { IfOk result (λ p. ForFile (λ bytes. IsModelFile bytes p) file) }
+    ensures fault { IfErr result
+        (λ e. ForFile (λ bytes. IsRefusalOfFile HasModelFault bytes e) file) }
+    ensures known { IfErr result HasKnownPlace }
 {
     match file {
         Fetched::Bytes(bytes) => read_model(alloc, &bytes),
@@ -47,13 +47,11 @@ fn open_model(alloc: Global, file: Fetched) -> Result<Problem, Refusal>
 }
 
 fn open_order(alloc: Global, problem: &Problem, file: Fetched) -> Result<Order, Refusal>
-    requires plain { IsTrue (is_plain problem.now) }
     ensures valid { IfOk result (λ o. IsValidOrder problem.now o) }
-    ensures plain { IfOk result (λ o. IsTrue (is_plain_order o)) }
-    ensures order { IfOk result (λ o. ForFile
-        (λ bytes. IsFileOf (plain_order (attributes_declared problem.now)) bytes o) file) }
-    ensures fault { IfErr result (λ e. ForFile
-        (λ bytes. RefusesFile (plain_order (attributes_declared problem.now)) bytes e) file) }
+    ensures order { IfOk result (λ o. ForFile (λ bytes. IsOrderFile problem.now bytes o) file) }
+    ensures fault { IfErr result
+        (λ e. ForFile (λ bytes. IsRefusalOfFile (HasOrderFault problem.now) bytes e) file) }
+    ensures known { IfErr result HasKnownPlace }
 {
     match file {
         Fetched::Bytes(bytes) => read_order(alloc, problem, &bytes),
@@ -63,16 +61,29 @@ fn open_order(alloc: Global, problem: &Problem, file: Fetched) -> Result<Order, 
 
 // The line of a refused file, if there is memory.
 fn refused(alloc: Global, file: &str, refusal: Refusal) -> Result<Outcome, AllocError>
+    requires known { HasKnownPlace refusal }
     ensures line { IfOk result (λ a. Refuses file.now refusal a.status a.text.items) }
     ensures status { IfOk result (λ a. IsOfOutcome a.status) }
 {
     match refusal {
         Refusal::Fault(fault) => Ok(Outcome {
             status: Status::Refused,
-            text: refused_text(alloc, file, fault.code)?,
+            text: refused_text(alloc, file, &fault)?,
         }),
         Refusal::Memory(e) => Err(e),
     }
+}
+
+// The line of a file without fault that can't be configured yet.
+fn unsupported(alloc: Global, file: &str) -> Result<Outcome, AllocError>
+    ensures line { IfOk result
+        (λ a. IsExactly Status.Refused (unsupported_text file.now) a.status a.text.items) }
+    ensures status { IfOk result (λ a. IsOfOutcome a.status) }
+{
+    Ok(Outcome {
+        status: Status::Refused,
+        text: unsupported_text(alloc, file)?,
+    })
 }
 
 // The preferred configuration, or the preferred conflict. It has no requests where there are none.
@@ -106,9 +117,15 @@ pub fn configured(alloc: Global, model: Fetched, order: Fetched) -> Result<Outco
         Ok(problem) => problem,
         Err(refusal) => return refused(alloc, "model", refusal),
     };
+    if !is_plain(problem.model()) {
+        return unsupported(alloc, "model");
+    }
     let order = match open_order(alloc, &problem, order) {
         Ok(order) => order,
         Err(refusal) => return refused(alloc, "order", refusal),
     };
+    if !is_plain_order(&order) {
+        return unsupported(alloc, "order");
+    }
     preferred_outcome(alloc, &problem, &order)
 }

@@ -171,8 +171,8 @@ fn run_words<S: Shelf, K: Sink>(
 ///
 /// - `Preferred` and the text of the preferred configuration, where all requests can be met;
 /// - `Conflict` and the preferred conflict, where they can't;
-/// - `Refused` and `refused FILE CODE PLACE`, where a file has a fault: the model's comes before
-///   the order's.
+/// - `Refused` and `refused FILE CODE PLACE`, where a file has a fault, or has none and can't be
+///   configured yet: the model's comes before the order's.
 ///
 /// `Usage` and the usage line: the words are none of the accepted forms. `ReadFailed`: a read
 /// failed, and nothing is written. `WriteFailed`: the write failed, and a part of the text may be
@@ -216,5 +216,9 @@ pub fn run_alone<S: Shelf, K: Sink>(
     run_words(alloc, words, shelf, out).number()
 }
 
+#[cfg(test)]
+mod refusals;
+#[cfg(test)]
+mod refused_files;
 #[cfg(test)]
 mod tests;

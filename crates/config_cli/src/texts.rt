@@ -1,22 +1,38 @@
-// The line of a refused file.
-ghost use Rattle.std.specs.Prelude.{◌≡◌, IfOk};
-ghost use Rattle.config_cli.specs.Texts.{refused_text};
+// The lines of files that are refused.
+ghost use Rattle.std.specs.Prelude.{◌≡◌, IfOk, IsTrue};
+ghost use Rattle.file_values.specs.Places.{has_known_keys};
+ghost use Rattle.config_cli.specs.Texts.{refused_text, unsupported_text};
 
-use model_reader::FaultCode;
+use model_reader::{Fault, write_place};
 use std::alloc::{AllocError, Global};
 
-/// `refused FILE CODE /`, for a fault of the whole document. The fault is told by its number, in
-/// two digits after `F`.
+/// `refused FILE CODE PLACE`. The fault is told by its number, in two digits after `F`.
 #[tactic(auto, unfolding(crate::specs::Texts::refused_text))]
-pub fn refused_text(alloc: Global, file: &str, code: FaultCode) -> Result<Vec<u8>, AllocError>
-    ensures { IfOk result (λ text. text.items ≡ refused_text file.now code) }
+pub fn refused_text(alloc: Global, file: &str, fault: &Fault) -> Result<Vec<u8>, AllocError>
+    requires { IsTrue (has_known_keys fault.now.place) }
+    ensures { IfOk result
+        (λ text. text.items ≡ refused_text file.now fault.now.code fault.now.place) }
 {
-    let number = code.number();
+    let number = fault.code.number();
+    let place = write_place(alloc, fault.place.as_slice())?;
     let mut text = Vec::from_slice(alloc, b"refused ")?;
     text.extend_from_slice(file.as_bytes())?;
     text.extend_from_slice(b" F")?;
     text.push(b'0' + (number / 10) as u8)?;
     text.push(b'0' + (number % 10) as u8)?;
-    text.extend_from_slice(b" /\n")?;
+    text.push(b' ')?;
+    text.extend_from_slice(&place)?;
+    text.push(b'\n')?;
+    Ok(text)
+}
+
+/// `refused FILE F90 /`, for a file without fault that can't be configured yet.
+#[tactic(auto, unfolding(crate::specs::Texts::unsupported_text))]
+pub fn unsupported_text(alloc: Global, file: &str) -> Result<Vec<u8>, AllocError>
+    ensures { IfOk result (λ text. text.items ≡ unsupported_text file.now) }
+{
+    let mut text = Vec::from_slice(alloc, b"refused ")?;
+    text.extend_from_slice(file.as_bytes())?;
+    text.extend_from_slice(b" F90 /\n")?;
     Ok(text)
 }

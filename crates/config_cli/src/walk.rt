@@ -8,7 +8,7 @@ ghost use Rattle.config_value.specs.declared.configuration.Instance.{Instance};
 ghost use Rattle.config_value.specs.Satisfies.{IsCandidate, all_kept};
 ghost use Rattle.config_value.specs.Preferred.{IsPreferred};
 ghost use Rattle.config_value.specs.Spelled.{is_spelled};
-ghost use Rattle.model_reader.specs.Plain.{is_plain, is_plain_side};
+ghost use Rattle.config_cli.specs.Plain.{is_plain, is_plain_side};
 ghost use Rattle.config_cli.specs.steps.Walk.{one_instance, WalksOver, WalksOverRange, FindsFirst};
 
 mod best_found;

@@ -5,6 +5,7 @@ mod formed;
 mod largest;
 mod literals;
 mod models;
+mod name_form;
 mod names;
 mod problems;
 mod values;

@@ -1,6 +1,4 @@
-pub mod Codes
-pub mod Plain
 pub mod Files
-pub mod PlainFile
-pub mod Refused
+pub mod Passes
+pub mod Stated
 pub mod steps

@@ -1,1 +1,4 @@
-pub mod PlainTable
+pub mod InversePass
+pub mod KnownPass
+pub mod PlainPasses
+pub mod TypePasses

@@ -1,25 +1,47 @@
-//! The JSON value of a file, and what is told of a file that isn't read.
-ghost use Rattle.std.specs.Prelude.{◌≡◌, Some, IfOk, IfErr, ◌≢◌, alloc_error};
+//! The JSON value of a file.
+ghost use Rattle.std.specs.Prelude.{◌≡◌, [], IfOk, IfErr};
 ghost use Rattle.serde_json.specs.View.{view};
-ghost use Rattle.model_reader.specs.declared.unread.Unread.TheVariants.{Other};
-ghost use Rattle.model_reader.specs.declared.fault.FaultCode.TheVariants.{Unsupported};
-ghost use Rattle.model_reader.specs.declared.fault.Refusal.TheVariants.{Memory};
-ghost use Rattle.model_reader.specs.Files.{IsFileOf};
-ghost use Rattle.model_reader.specs.Refused.{RefusesFile, whole_file};
+ghost use Rattle.file_values.specs.declared.fault.FaultCode.TheVariants.{TooLong, NoJson};
+ghost use Rattle.file_meaning.specs.declared.refusal.Refusal.TheVariants.{Fault as refused_by};
+ghost use Rattle.file_meaning.specs.Faults.{fault};
+ghost use Rattle.model_reader.specs.Files.{IsValueOfFile, IsRefusalOfBytes};
 
-use crate::fault::{FaultCode, Refusal, too_long, whole_file};
-use crate::unread::Unread;
+use file_meaning::Refusal;
+use file_values::{Fault, FaultCode};
+use prod_model::Items;
 use prod_model::limits::MOST_FILE_BYTES;
 use serde_json::Value;
 use std::alloc::{AllocError, Global};
 
+/// The refusal of a file with more than 4,194,304 bytes.
+pub fn too_long(alloc: Global) -> Refusal
+    ensures { result ≡ refused_by (fault TooLong []) }
+{
+    Refusal::Fault(Fault {
+        code: FaultCode::TooLong,
+        place: Items::new(alloc),
+    })
+}
+
+/// The refusal of a file that is no JSON text.
+fn no_json(alloc: Global) -> Refusal
+    ensures { result ≡ refused_by (fault NoJson []) }
+{
+    Refusal::Fault(Fault {
+        code: FaultCode::NoJson,
+        place: Items::new(alloc),
+    })
+}
+
 /// The value of a file.
+///
+/// # Errors
 ///
 /// `TooLong` comes where the file has more than 4,194,304 bytes, and `NoJson` where it has no more
 /// and is no JSON text. `Memory` where memory runs out.
 pub fn value_of(alloc: Global, bytes: &[u8]) -> Result<Value, Refusal>
-    ensures value { IfOk result (λ v. IsFileOf Some bytes.now (view v)) }
-    ensures fault { IfErr result (λ e. RefusesFile Some bytes.now e) }
+    ensures value { IfOk result (λ v. IsValueOfFile bytes.now (view v)) }
+    ensures fault { IfErr result (IsRefusalOfBytes bytes.now) }
 {
     if bytes.len() > MOST_FILE_BYTES {
         return Err(too_long(alloc));
@@ -27,17 +49,6 @@ pub fn value_of(alloc: Global, bytes: &[u8]) -> Result<Value, Refusal>
     match Value::from_slice(alloc, bytes) {
         Ok(value) => Ok(value),
         Err(e) if e.is_memory() => Err(Refusal::Memory(AllocError)),
-        Err(_) => Err(whole_file(alloc, FaultCode::NoJson)),
-    }
-}
-
-/// What is told of a file whose value isn't read: `Unsupported`, unless memory was wanting.
-pub fn refusal_of(alloc: Global, unread: Unread) -> Refusal
-    ensures other { unread ≡ Other → result ≡ whole_file Unsupported }
-    ensures memory { unread ≢ Other → result ≡ Memory alloc_error }
-{
-    match unread {
-        Unread::Other => whole_file(alloc, FaultCode::Unsupported),
-        Unread::Memory(e) => Refusal::Memory(e),
+        Err(_) => Err(no_json(alloc)),
     }
 }

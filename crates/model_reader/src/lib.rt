@@ -1,31 +1,26 @@
 //! Reads product models.
 #![tactic(auto)]
 
-mod attributes;
-mod comparison;
-mod fault;
+mod declared;
 mod file;
-mod members;
-mod name_form;
+mod inverses;
+mod known;
+mod model;
 mod names;
-mod plain_attribute;
-mod plain_model;
-mod plain_type;
-mod problem;
-mod reading;
-mod rule;
-mod unread;
+mod plain;
+mod rules;
+mod stated;
+mod types;
 
-pub use attributes::Attributes;
-pub use comparison::plain_side;
-pub use fault::{Fault, FaultCode, Part, Refusal, too_long};
-pub use file::{refusal_of, value_of};
-pub use members::{has_only, list_at, list_of, one_of, text_at, three_of, two_of, whole_number};
-pub use name_form::is_name;
-pub use names::Names;
-pub use problem::attributes_declared;
-pub use reading::read_model;
-pub use unread::Unread;
-
-#[cfg(test)]
-mod tests;
+pub use declared::{check_values, member_of, null};
+pub use file::{too_long, value_of};
+pub use file_meaning::{Refusal, read_expr};
+pub use file_values::{Fault, FaultCode, Part, write_place};
+pub use inverses::link_inverses;
+pub use known::check_known;
+pub use model::read_model;
+pub use names::name_in;
+pub use plain::check_plain;
+pub use rules::read_rules;
+pub use stated::{earlier_fault, place_in, placed, read_stated};
+pub use types::declared_tables;

@@ -1,58 +1,63 @@
-//! Names in their order, for looking one up and for telling whether one came before.
-ghost use Rattle.std.specs.Prelude.{◌≡◌, ◌<◌, ◌^◌, List, [], ◌∷◌, ◌++◌, not, length, IfOk, OnErr, if◌then◌else◌};
-ghost use Rattle.std.specs.List.{list_any, position};
-ghost use Rattle.prod_model.specs.Names.{same_text};
+//! The names in an entry of a list.
+ghost use Rattle.std.specs.Prelude.{◌≡◌, IfOk, codes, if◌then◌else◌};
+ghost use Rattle.std.specs.List.{position, position_or_len};
+ghost use Rattle.serde_json.specs.View.{view};
+ghost use Rattle.prod_model.specs.Names.{is_name as is_name_text, same_text};
+ghost use Rattle.file_values.specs.declared.kind.Key.TheVariants.{Name as Called};
+ghost use Rattle.file_values.specs.Read.{member_of};
+ghost use Rattle.file_meaning.specs.ModelOf.{name_at, number_named};
+ghost use Rattle.file_meaning.specs.steps.Names.{is_named, names_in};
 
-use indexmap::IndexSet;
+use crate::declared::text_at;
+use file_values::{Key, is_name};
+use prod_model::Name;
+use serde_json::Value;
 use std::alloc::{AllocError, Global};
-use std::marker::Model;
 
-/// Names in the order in which they came, each once, seen as the list of them.
-#[derive(Drop)]
-pub struct Names<'n> {
-    texts: IndexSet<&'n [u8]>,
+/// The name that the text is; `-` where it is none.
+#[tactic(auto, using(file_meaning::proofs::NameForms::name_some, file_meaning::proofs::NameForms::name_short))]
+fn name_of(alloc: Global, text: &str) -> Result<Name, AllocError>
+    ensures { IfOk result (λ n. n ≡ (if is_name_text text.now then text.now else codes "-")) }
+{
+    if is_name(text.as_bytes()) {
+        Name::from_bytes(alloc, text.as_bytes())
+    } else {
+        Name::from_bytes(alloc, b"-")
+    }
 }
 
-impl<'n> Model for Names<'n> {
-    ghost use Rattle.std.specs.Prelude.{List, ℕ, map};
-
-    ghost Value = { List (List ℕ) };
-
-    ghost view = { λ n. map (λ t. t.now) n.texts.keys };
+/// The name of an entry; `-` where it has none.
+pub fn name_in(alloc: Global, value: &Value) -> Result<Name, AllocError>
+    ensures { IfOk result (λ n. n ≡ name_at Called (view value.now)) }
+{
+    name_of(alloc, text_at(value, Key::Name))
 }
 
-impl<'n> Names<'n> {
-    pub fn new(alloc: Global) -> Names<'n>
-        ensures { result ≡ [] }
-    {
-        Names {
-            texts: IndexSet::new(alloc),
-        }
-    }
+/// The place of the first of the types that has the name.
+fn first_named(types: &[Value], name: &str) -> Option<usize>
+    ensures { result ≡ position (is_named name.now) types.now }
+{
+    types.iter().position(|t| text_at(t, Key::Name) == name)
+}
 
-    /// Puts the name last and returns `true`. The names stay where it is among them already, which
-    /// returns `false`, and where memory runs out, which is an `Err`.
-    #[tactic(auto, using(crate::proofs::NameLaws::searching))]
-    pub fn insert(&mut self, name: &'n [u8]) -> Result<bool, AllocError>
-        ensures added { IfOk result
-            (λ added. added ≡ not (list_any (same_text name.now) self.old)) }
-        ensures names { IfOk result
-            (λ added. self.new ≡ (if added then self.old ++ name.now ∷ [] else self.old)) }
-        ensures unchanged { OnErr result (self.new ≡ self.old) }
-    {
-        let Ok(added) = self.texts.insert(name) else {
-            return Err(AllocError);
-        };
-        Ok(added)
+/// The place of the first of the types that has the name, and their count where none has.
+fn place_named(types: &[Value], name: &str) -> usize
+    ensures { result ≡ position_or_len (λ n. same_text n name.now) (names_in types.now) }
+{
+    match first_named(types, name) {
+        Some(place) => place,
+        None => types.len(),
     }
+}
 
-    /// The place of a name, counted from 0.
-    #[tactic(auto, using(crate::proofs::NameLaws::searching))]
-    pub fn place_of(&self, name: &[u8]) -> Option<u32>
-        requires { length self.now < 2 ^ 32 }
-        ensures { result ≡ position (λ n. same_text n name.now) self.now }
-    {
-        let place = self.texts.get_index_of(name)?;
-        Some(place as u32)
+/// The number of the type that a member names. `AllocError` where it doesn't fit 32 bits.
+pub(crate) fn number_named(types: &[Value], value: &Value, key: Key) -> Result<u32, AllocError>
+    ensures { IfOk result
+        (λ n. n ≡ number_named (names_in types.now) (member_of key (view value.now))) }
+{
+    let place = place_named(types, text_at(value, key));
+    if place > u32::MAX as usize {
+        return Err(AllocError);
     }
+    Ok(place as u32)
 }

@@ -1,9 +1,10 @@
 -- What a read that stops at the limit shows of a file.
-use Rattle.std.specs.Prelude.{◌≡◌, ℕ, ◌<◌, List, length, Some}
+use Rattle.std.specs.Prelude.{◌≡◌, ℕ, ◌<◌, IsTrue, List, length, Some}
 use Rattle.cfg_io.specs.Shelves.{file}
 use Rattle.prod_model.specs.Limits.{most_file_bytes}
-use Rattle.model_reader.specs.declared.fault.Refusal.{Refusal}
-use Rattle.model_reader.specs.declared.fault.Refusal.TheVariants.{Fault, Memory}
+use Rattle.file_values.specs.Places.{has_known_keys}
+use Rattle.file_meaning.specs.declared.refusal.Refusal.{Refusal}
+use Rattle.file_meaning.specs.declared.refusal.Refusal.TheVariants.{Fault, Memory}
 use Rattle.config_cli.specs.Texts.{refused_text}
 use Rattle.config_cli.specs.declared.outcome.Fetched.{Fetched}
 use Rattle.config_cli.specs.declared.outcome.Fetched.TheVariants.{Bytes, TooLong}
@@ -24,7 +25,12 @@ IsFetchAt files name fetched =
 abbrev pub ForFile : (List ℕ → Type 0) → Fetched → Type 0
 ForFile P fetched = (bytes : List ℕ) → IsFetchOf bytes fetched → P bytes
 
+-- the place of the fault, if it is one, can be written
+abbrev pub HasKnownPlace : Refusal → Type 0
+HasKnownPlace (Fault f) = IsTrue (has_known_keys f.place)
+HasKnownPlace (Memory e) = Unit {0}
+
 -- the status and the line for a fault
 abbrev pub Refuses : List ℕ → Refusal → Status → List ℕ → Type 0
-Refuses file (Fault f) status text = (status ≡ Refused) × (text ≡ refused_text file f.code)
+Refuses file (Fault f) status text = (status ≡ Refused) × (text ≡ refused_text file f.code f.place)
 Refuses file (Memory e) status text = ⊥

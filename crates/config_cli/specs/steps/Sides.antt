@@ -1,6 +1,6 @@
 -- Plain sides, rules and criteria, where attribute k has the value at place k. It is meant for
 -- these alone: any other side is 0, and any other rule is not met.
-use Rattle.std.specs.Prelude.{ℤ, pos, Bool, false, ◌&&◌, ◌==◌, List, [], ◌∷◌, length, slice_index_or, if◌then◌else◌}
+use Rattle.std.specs.Prelude.{ℤ, pos, Bool, false, List, [], ◌∷◌, slice_index_or, if◌then◌else◌}
 use Rattle.std.specs.declared.cmp.Ordering.{Ordering}
 use Rattle.std.specs.declared.cmp.Ordering.TheVariants.{Equal}
 use Rattle.std.specs.Ordering.{int_cmp, ordering_then}
@@ -10,10 +10,8 @@ use Rattle.prod_model.specs.declared.expr.Expr.{Expr}
 use Rattle.prod_model.specs.declared.expr.Expr.TheOpen.{Expr-F, Num, Attr, Cmp}
 use Rattle.prod_model.specs.declared.expr.Expr.TheViews.{out-Expr}
 use Rattle.prod_model.specs.declared.model.Criterion.{Criterion}
-use Rattle.prod_model.specs.declared.model.Order.{Order}
 use Rattle.prod_model.specs.declared.model.Rule.{Rule}
 use Rattle.config_value.specs.Value.{holds}
-use Rattle.model_reader.specs.Plain.{is_plain_side}
 
 -- the number that a plain side is
 abbrev pub side_value : List ℤ → Expr-F Expr → ℤ
@@ -47,8 +45,3 @@ criteria_order (r ∷ rs) xs ys = ordering_then (criterion_order r xs ys) (crite
 -- by the criteria, and then value by value
 abbrev pub values_order : List Criterion → List ℤ → List ℤ → Ordering
 values_order rs xs ys = ordering_then (criteria_order rs xs ys) (slice_cmp int_cmp xs ys)
-
--- an order has no requests, and its criteria are numbers or attributes
-unfoldable pub is_plain_order : Order → Bool
-is_plain_order o =
-    (length o.requests == 0) && list_all (λ r. is_plain_side (out-Expr r.value)) o.criteria

@@ -8,7 +8,10 @@ use std::alloc::{AllocError, Global};
 use std::process::Abort;
 use std::test::Fail;
 
-const BOX: &str = "{\"format\":\"product-model 1\",\"root\":\"Box\",\"instances\":1,\
+pub(super) const BOX: &str = "{\"format\":\"product-model 1\",\"root\":\"Box\",\"instances\":1,\
+    \"types\":[{\"name\":\"Box\"}]}";
+
+const SECOND_BOX: &str = "{\"format\":\"product-model 2\",\"root\":\"Box\",\"instances\":1,\
     \"types\":[{\"name\":\"Box\"}]}";
 
 const WIDE_BOX: &str = "{\"format\":\"product-model 1\",\"root\":\"Box\",\"instances\":1,\
@@ -20,7 +23,7 @@ const TOO_WIDE_BOX: &str = "{\"format\":\"product-model 1\",\"root\":\"Box\",\"i
 
 const CUT_SHORT: &str = "{\"format\":\"product-model 1\",\"root\":";
 
-const NO_CRITERIA: &str = "{\"format\":\"order 1\"}";
+pub(super) const NO_CRITERIA: &str = "{\"format\":\"order 1\"}";
 
 const WIDEST: &str = "{\"format\":\"order 1\",\
     \"criteria\":[{\"name\":\"w\",\"maximise\":[\"attr\",\"width\"]}]}";
@@ -30,16 +33,16 @@ const USAGE: &str = "usage: config_cli configure MODEL ORDER [--workers W] \
 
 /// A run of `configure model order`, and what it leaves.
 #[derive(Clone, Copy)]
-struct Row {
-    shows: &'static str,
-    model: &'static str,
-    order: &'static str,
+pub(super) struct Row {
+    pub(super) shows: &'static str,
+    pub(super) model: &'static str,
+    pub(super) order: &'static str,
     /// The call of the shelf that fails.
-    failing_read: Option<u32>,
+    pub(super) failing_read: Option<u32>,
     /// The call of the sink that fails, and how many bytes it lets out.
-    failing_write: Option<(u32, u32)>,
-    status: Status,
-    written: &'static str,
+    pub(super) failing_write: Option<(u32, u32)>,
+    pub(super) status: Status,
+    pub(super) written: &'static str,
 }
 
 /// What a run left.
@@ -49,7 +52,7 @@ struct Left {
     written: Vec<u8>,
 }
 
-fn words_of(alloc: Global, line: &str) -> Result<Vec<String>, AllocError> {
+pub(super) fn words_of(alloc: Global, line: &str) -> Result<Vec<String>, AllocError> {
     let mut words = Vec::new(alloc);
     for word in line.split_whitespace() {
         words.push(String::from_str(alloc, word)?)?;
@@ -95,10 +98,19 @@ fn left_by(alloc: Global, line: &str, row: &Row) -> Result<Left, AllocError> {
     Ok(Left { status, written })
 }
 
-const ROWS: [Row; 12] = [
+const ROWS: [Row; 13] = [
     Row {
         shows: "a product of one type without attributes is its root alone",
         model: BOX,
+        order: NO_CRITERIA,
+        failing_read: None,
+        failing_write: None,
+        status: Status::Preferred,
+        written: "preferred\n0 Box\n",
+    },
+    Row {
+        shows: "a model of the second format without inverses is configured",
+        model: SECOND_BOX,
         order: NO_CRITERIA,
         failing_read: None,
         failing_write: None,
@@ -115,13 +127,13 @@ const ROWS: [Row; 12] = [
         written: "refused model F02 /\n",
     },
     Row {
-        shows: "an order with another format is refused",
+        shows: "an order with another format is refused at its format",
         model: BOX,
         order: "{\"format\":\"order 2\"}",
         failing_read: None,
         failing_write: None,
         status: Status::Refused,
-        written: "refused order F90 /\n",
+        written: "refused order F03 /format\n",
     },
     Row {
         shows: "a rule that never holds leaves the empty conflict",
@@ -207,7 +219,12 @@ const ROWS: [Row; 12] = [
 ];
 
 /// The run leaves what the row says.
-fn check_row(rt: &impl Abort, alloc: Global, line: &str, row: &Row) -> Result<(), AllocError> {
+pub(super) fn check_row(
+    rt: &impl Abort,
+    alloc: Global,
+    line: &str,
+    row: &Row,
+) -> Result<(), AllocError> {
     let left = left_by(alloc, line, row)?;
     assert_eq!(rt; left.status, row.status.number(), "{line}: {}", row.shows);
     assert_eq!(rt;

@@ -6,8 +6,8 @@ ghost use Rattle.prod_model.specs.Names.{is_name as is_name_of, is_word as is_wo
 ghost use Rattle.prod_model.specs.Taxonomy.{words_of as words_in};
 ghost use Rattle.prod_model.specs.Valid.{IsFormed, has_short_lists as lists_are_short, has_formed_names as names_are_formed, has_numbers_in_limits as numbers_are_in_limits, has_few_words as words_are_few, has_ends as ends_are_in_order, is_pair as pair_is_in_order};
 
+use super::name_form::is_name;
 use super::names::has_distinct_names;
-use model_reader::is_name;
 use prod_model::{AttrDecl, CountBound, Domain, Model, Name, PortDecl, Rule, TypeDecl};
 use std::alloc::{AllocError, Global};
 

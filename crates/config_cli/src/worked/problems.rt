@@ -86,14 +86,14 @@ fn are_truths(alloc: Global, model: &Model, tables: &Tables, rules: &[Rule]) -> 
 }
 
 /// The tables with the inverses of ports, if these are right.
-fn with_inverses(alloc: Global, model: &Model, mut tables: Tables) -> Result<Tables, Fail>
+fn with_inverses(model: &Model, mut tables: Tables) -> Result<Tables, Fail>
     requires formed { IsFormed model.now }
     requires taxonomy { IsTaxonomy model.now }
     requires tables { tables ≡ declared_tables_of model.now }
     ensures tables { IfOk result (λ all. all ≡ tables_of model.now) }
     ensures right { OnOk result (IsTrue (has_right_inverses model.now)) }
 {
-    match inverses(alloc, model, &mut tables) {
+    match inverses(model, &mut tables) {
         Ok(()) => Ok(tables),
         Err(_) => Err(Fail::from("an inverse is not right")),
     }
@@ -116,6 +116,6 @@ pub(super) fn problem_of(alloc: Global, model: Model) -> Result<Problem, Fail> {
     if !are_truths(alloc, &model, &tables, model.rules.as_slice()) {
         return Err(Fail::from("a rule is no truth"));
     }
-    let tables = with_inverses(alloc, &model, tables)?;
+    let tables = with_inverses(&model, tables)?;
     Ok(Problem::from_parts(model, tables))
 }

@@ -1,0 +1,8 @@
+//! Reads orders.
+#![tactic(auto)]
+
+mod criteria;
+mod order;
+mod requests;
+
+pub use order::read_order;
