@@ -8,6 +8,7 @@ pub mod Preferred
 pub mod Conflict
 pub mod Laws
 pub mod Links
+pub mod Literals
 pub mod ShapedSentences
 pub mod NumberedSentences
 pub mod BoundsHold

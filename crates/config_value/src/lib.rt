@@ -5,9 +5,11 @@ mod configuration;
 mod found;
 mod key;
 pub mod laws;
+mod literal;
 mod relation;
 mod turn;
 
 pub use configuration::{Configuration, Instance};
 pub use found::Found;
+pub use literal::Literal;
 pub use relation::holds;
