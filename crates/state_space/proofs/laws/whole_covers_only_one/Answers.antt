@@ -1,0 +1,6 @@
+-- It is the lemma of its name.
+use Rattle.state_space.proofs.ValidStates.{whole_covers_only_one as law}
+use Rattle.state_space.proofs.laws.whole_covers_only_one.Goals as goal
+
+pub returns : goal.returns
+returns c = law

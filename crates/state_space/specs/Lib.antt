@@ -1,0 +1,15 @@
+pub mod Sets
+pub mod Values
+pub mod Ports
+pub mod Made
+pub mod State
+pub mod Covers
+pub mod Root
+pub mod Generation
+pub mod Whole
+pub mod Size
+pub mod Entails
+pub mod Changes
+pub mod Undo
+pub mod Declared
+pub mod Laws
