@@ -1,0 +1,10 @@
+pub mod Numbers
+pub mod Counts
+pub mod WordNarrowings
+pub mod ValueNarrowings
+pub mod StoredNarrowings
+pub mod PortNarrowings
+pub mod PortCalls
+pub mod KindLaws
+pub mod StateChanges
+pub mod LoggedChanges

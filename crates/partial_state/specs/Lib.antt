@@ -1,0 +1,4 @@
+pub mod Masks
+pub mod OldValues
+pub mod Views
+pub mod steps

@@ -1,0 +1,5 @@
+pub mod Clamped
+pub mod InForm
+pub mod Narrowed
+pub mod Bounds
+pub mod Logged

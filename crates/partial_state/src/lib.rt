@@ -1,0 +1,15 @@
+//! Partial states of a product: what is known of the instances made so far, and changes of it.
+#![tactic(auto)]
+
+mod bounds;
+mod change_log;
+mod copies;
+mod kinds;
+mod partial;
+mod ports;
+mod row;
+mod values;
+mod words;
+
+pub use change_log::ChangeLog;
+pub use partial::Partial;
