@@ -1,0 +1,32 @@
+-- A test of sets of requests, and its preferred conflict (Junker 2004). A set of requests is a
+-- truth for each of them.
+use Rattle.std.specs.Prelude.{◌≡◌, ℕ, ◌+◌, Bool, true, false, IsTrue, IsFalse, List, [], ◌∷◌, length, slice_get, Some}
+use Rattle.config_value.specs.Conflict.{IsAntilexSmaller}
+use Rattle.prod_model.specs.First.{IsFirst}
+
+-- all requests of the first set are in the second one
+pub record IsPart (part whole : List Bool) : Type 0 where
+  pub each_request : length part ≡ length whole
+  pub within : (request : ℕ) → slice_get part request ≡ Some true
+      → slice_get whole request ≡ Some true
+
+-- a part of a consistent set is consistent
+abbrev pub IsClosedUnderParts : (List Bool → Bool) → Type 0
+IsClosedUnderParts consistent =
+    (part whole : List Bool) → IsPart part whole → IsTrue (consistent whole)
+    → IsTrue (consistent part)
+
+-- a set of the n requests that isn't consistent
+pub record IsConflictOf (consistent : List Bool → Bool) (n : ℕ) (keep : List Bool) : Type 0 where
+  pub each_request : length keep ≡ n
+  pub inconsistent : IsFalse (consistent keep)
+
+-- the conflict than which none is antilex-smaller
+abbrev pub IsPreferredConflictOf : (List Bool → Bool) → ℕ → List Bool → Type 0
+IsPreferredConflictOf consistent n = IsFirst (IsConflictOf consistent n) IsAntilexSmaller
+
+-- the places of the requests that a set keeps, ascending, counted from a first place on
+abbrev pub places_kept : ℕ → List Bool → List ℕ
+places_kept from [] = []
+places_kept from (true ∷ keep) = from ∷ places_kept (from + 1) keep
+places_kept from (false ∷ keep) = places_kept (from + 1) keep
