@@ -1,0 +1,4 @@
+pub mod Negated
+pub mod Numbers
+pub mod PreferredLaws
+pub mod RankParts

@@ -1,0 +1,4 @@
+pub mod CriteriaValues
+pub mod Wanted
+pub mod Laws
+pub mod steps
