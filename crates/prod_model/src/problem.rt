@@ -95,6 +95,13 @@ impl Problem {
         self.masks.leaves_under(t)
     }
 
+    /// The attributes and ports of all types.
+    pub fn tables(&self) -> &Tables
+        ensures { result.now ≡ tables_of self.now }
+    {
+        &self.tables
+    }
+
     /// The attributes of type `t`: those of its parent in the parent's order, each narrowed as `t`
     /// declares, and then its new ones in file order.
     #[tactic(auto, using(crate::proofs::TaxonomyLaws::length_attributes, crate::proofs::TaxonomyLaws::attributes_row))]
