@@ -1,9 +1,13 @@
 -- The limits of a model and an order.
 use Rattle.std.specs.Prelude.{ℕ, ℤ, pos, neg_ℤ, int_le, Bool, ◌&&◌, nat_le}
 
--- how many bytes a file has at most
+-- how many bytes the file of a model or an order has at most
 abbrev pub most_file_bytes : ℕ
 most_file_bytes = 4194304
+
+-- how many bytes the file of an answer has at most
+abbrev pub most_answer_bytes : ℕ
+most_answer_bytes = 8388608
 
 -- how many types a model has at most
 abbrev pub most_types : ℕ

@@ -1,7 +1,10 @@
 //! The limits of a model and an order, for every test of a length or a number.
 
-/// How many bytes a file has at most.
+/// How many bytes the file of a model or an order has at most.
 pub const MOST_FILE_BYTES: usize = 4_194_304;
+
+/// How many bytes the file of an answer has at most.
+pub const MOST_ANSWER_BYTES: usize = 8_388_608;
 
 /// How many types a model has at most.
 pub const MOST_TYPES: usize = 128;
