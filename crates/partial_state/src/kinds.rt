@@ -12,7 +12,7 @@ use std::marker::Model;
 #[derive(Drop)]
 pub(crate) struct KindSet {
     /// Bit t stands for the type of number t.
-    mask: u128,
+    pub(crate) mask: u128,
 }
 
 impl Model for KindSet {

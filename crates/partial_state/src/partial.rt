@@ -29,12 +29,12 @@ use std::marker::Model;
 /// numbered from 0, and attributes and ports are ids. Each entry is found in constant time.
 #[derive(Drop)]
 pub struct Partial {
-    alloc: Global,
+    pub(crate) alloc: Global,
     /// For each attribute id the leaf types that have it, as a mask.
-    attribute_types: Vec<u128>,
+    pub(crate) attribute_types: Vec<u128>,
     /// For each port id the leaf types that have it.
-    port_types: Vec<u128>,
-    made: Vec<InstanceRow>,
+    pub(crate) port_types: Vec<u128>,
+    pub(crate) made: Vec<InstanceRow>,
 }
 
 impl Model for Partial {

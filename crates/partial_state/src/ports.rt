@@ -12,7 +12,7 @@ use std::marker::Model;
 /// A port whose required links are possible, with its bounds in order.
 #[derive(Drop)]
 pub(crate) struct MadePort {
-    links: PortDomain,
+    pub(crate) links: PortDomain,
 }
 
 impl Model for MadePort {

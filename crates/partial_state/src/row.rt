@@ -23,9 +23,9 @@ use std::marker::Model;
 /// so does a port's.
 #[derive(Drop)]
 pub(crate) struct InstanceRow {
-    kinds: KindSet,
-    domains: Vec<Option<AttributeDomain>>,
-    ports: Vec<Option<MadePort>>,
+    pub(crate) kinds: KindSet,
+    pub(crate) domains: Vec<Option<AttributeDomain>>,
+    pub(crate) ports: Vec<Option<MadePort>>,
 }
 
 impl Model for InstanceRow {

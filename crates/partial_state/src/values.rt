@@ -23,7 +23,7 @@ pub(crate) enum Domain {
 /// The values that an attribute may still have. There is one.
 #[derive(Drop)]
 pub(crate) struct AttributeDomain {
-    domain: Domain,
+    pub(crate) domain: Domain,
 }
 
 impl Model for AttributeDomain {
