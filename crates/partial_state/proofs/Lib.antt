@@ -8,3 +8,4 @@ pub mod PortCalls
 pub mod KindLaws
 pub mod StateChanges
 pub mod LoggedChanges
+pub mod LoggedKinds

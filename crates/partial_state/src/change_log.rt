@@ -1,6 +1,6 @@
 //! What the changes of a partial state replaced.
 ghost use Rattle.std.specs.Prelude.{◌≡◌, ◌<◌, ◌∷◌, ◌++◌, [], length, IfOk, OnOk, OnErr};
-ghost use Rattle.state_space.specs.Undo.{Domain, Port};
+ghost use Rattle.state_space.specs.Undo.{Kinds, Domain, Port};
 
 use crate::kinds::KindSet;
 use crate::ports::MadePort;
@@ -42,6 +42,17 @@ impl Model for LogEntry {
     ghost use Rattle.partial_state.specs.OldValues.{old_value_of};
 
     ghost view = { λ e. old_value_of e.replaced };
+}
+
+impl LogEntry {
+    /// The types that an instance could be of.
+    pub(crate) fn of_kinds(instance: u32, kinds: KindSet) -> LogEntry
+        ensures { result ≡ Kinds instance kinds }
+    {
+        LogEntry {
+            replaced: Replaced::Kinds { instance, kinds },
+        }
+    }
 }
 
 impl LogEntry {

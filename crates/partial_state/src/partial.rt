@@ -340,7 +340,7 @@ impl Partial {
         }
     }
 
-    fn put_kinds(&mut self, i: u32, kinds: KindSet)
+    pub(crate) fn put_kinds(&mut self, i: u32, kinds: KindSet)
         ensures { self.new ≡ with_kinds i kinds self.old }
     {
         let at = i as usize;

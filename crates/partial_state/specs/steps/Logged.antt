@@ -4,8 +4,16 @@ use Rattle.domain_store.specs.declared.change.Change.{Change}
 use Rattle.domain_store.specs.declared.change.Change.TheVariants.{Smaller}
 use Rattle.state_space.specs.Ports.{PortLinks}
 use Rattle.state_space.specs.State.{State}
-use Rattle.state_space.specs.Changes.{NarrowsDomain, NarrowsPort}
+use Rattle.state_space.specs.Changes.{NarrowsKinds, NarrowsDomain, NarrowsPort}
 use Rattle.state_space.specs.Undo.{OldValue, Logs}
+
+-- The possible types of an instance are narrowed by a test, and their log brings them back. Unless
+-- they are fewer nothing is logged.
+pub record ChangesKinds (i : ℕ) (test : ℕ → Bool) (result : Change) (old new : State)
+    (log longer : List OldValue) : Type 0 where
+  pub narrows : NarrowsKinds i test result old new
+  pub logs : Logs old new log longer
+  pub same : result ≢ Smaller → longer ≡ log
 
 -- A domain is narrowed by a test, and its log brings it back. Unless it is smaller nothing is logged.
 pub record ChangesDomain (i a : ℕ) (test : ℤ → Bool) (result : Change) (old new : State)
