@@ -9,3 +9,7 @@ pub mod KindLaws
 pub mod StateChanges
 pub mod LoggedChanges
 pub mod LoggedKinds
+pub mod Leaves
+pub mod SoleKinds
+pub mod KindSearches
+pub mod OpenPorts

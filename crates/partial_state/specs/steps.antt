@@ -3,3 +3,4 @@ pub mod InForm
 pub mod Narrowed
 pub mod Bounds
 pub mod Logged
+pub mod Openings
