@@ -13,3 +13,5 @@ pub mod Leaves
 pub mod SoleKinds
 pub mod KindSearches
 pub mod OpenPorts
+pub mod KindTests
+pub mod LiteralChanges

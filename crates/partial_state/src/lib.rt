@@ -3,9 +3,9 @@
 
 mod bounds;
 mod change_log;
-mod changes;
 mod copies;
 mod first_open;
+mod kind_changes;
 mod kinds;
 mod openings;
 mod partial;
