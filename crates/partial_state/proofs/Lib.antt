@@ -1,4 +1,9 @@
 pub mod Numbers
+pub mod PassingNumbers
+pub mod KindLists
+pub mod NewRows
+pub mod WholeDomains
+pub mod NewPorts
 pub mod Counts
 pub mod WordNarrowings
 pub mod ValueNarrowings

@@ -4,3 +4,4 @@ pub mod Narrowed
 pub mod Bounds
 pub mod Logged
 pub mod Openings
+pub mod NewRows

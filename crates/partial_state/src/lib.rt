@@ -7,6 +7,7 @@ mod copies;
 mod first_open;
 mod kind_changes;
 mod kinds;
+mod new_row;
 mod openings;
 mod partial;
 mod ports;
