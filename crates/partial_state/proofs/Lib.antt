@@ -20,3 +20,6 @@ pub mod KindSearches
 pub mod OpenPorts
 pub mod KindTests
 pub mod LiteralChanges
+pub mod PortGenerations
+pub mod Generations
+pub mod NextInstances

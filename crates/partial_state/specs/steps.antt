@@ -5,3 +5,4 @@ pub mod Bounds
 pub mod Logged
 pub mod Openings
 pub mod NewRows
+pub mod Generated

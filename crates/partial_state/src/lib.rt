@@ -5,6 +5,7 @@ mod bounds;
 mod change_log;
 mod copies;
 mod first_open;
+mod generation;
 mod kind_changes;
 mod kinds;
 mod new_row;

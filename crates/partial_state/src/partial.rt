@@ -360,7 +360,7 @@ impl Partial {
         self.made[at].put_domain(attr, values);
     }
 
-    fn put_port(&mut self, i: u32, port: u32, links: MadePort)
+    pub(crate) fn put_port(&mut self, i: u32, port: u32, links: MadePort)
         ensures { self.new ≡ with_port i port links self.old }
     {
         let at = i as usize;

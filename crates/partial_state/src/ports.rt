@@ -1,5 +1,5 @@
 //! What a port of a made instance may link.
-ghost use Rattle.std.specs.Prelude.{◌≡◌, ◌<◌, nat_le, not};
+ghost use Rattle.std.specs.Prelude.{◌≡◌, ◌≤◌, ◌<◌, nat_le, not};
 ghost use Rattle.port_wildcards.specs.Ports.{IsPort};
 ghost use Rattle.state_space.specs.Sets.{has_number};
 ghost use Rattle.state_space.specs.Ports.{made_here, made_elsewhere};
@@ -71,5 +71,22 @@ impl MadePort {
         ensures { NarrowsInPort (λ l. nat_le n l.later) result self.old self.new }
     {
         self.links.fresh_at_least(n)
+    }
+
+    /// Instance `j` is made for this port, which must link it.
+    pub(crate) fn made_here(&mut self, j: u32)
+        requires below { j < 256 }
+        requires open { 1 ≤ self.old.fresh_high }
+        ensures { self.new ≡ made_here j self.old }
+    {
+        self.links.made_here(j);
+    }
+
+    /// Instance `j` is made for another port. Unless this one is closed, it may link it.
+    pub(crate) fn made_elsewhere(&mut self, j: u32)
+        requires { j < 256 }
+        ensures { self.new ≡ made_elsewhere j self.old }
+    {
+        self.links.made_elsewhere(j);
     }
 }
