@@ -23,3 +23,4 @@ pub mod LiteralChanges
 pub mod PortGenerations
 pub mod Generations
 pub mod NextInstances
+pub mod GenerationLogs

@@ -6,3 +6,4 @@ pub mod Logged
 pub mod Openings
 pub mod NewRows
 pub mod Generated
+pub mod GenerationLog

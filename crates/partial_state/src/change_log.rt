@@ -1,5 +1,5 @@
 //! What the changes of a partial state replaced.
-ghost use Rattle.std.specs.Prelude.{◌≡◌, ◌<◌, ◌∷◌, ◌++◌, [], length, IfOk, OnOk, OnErr};
+ghost use Rattle.std.specs.Prelude.{◌≡◌, ◌<◌, ◌∷◌, ◌++◌, [], length, take, IfOk, OnOk, OnErr};
 ghost use Rattle.state_space.specs.Undo.{Kinds, Domain, Port};
 
 use crate::kinds::KindSet;
@@ -130,6 +130,13 @@ impl ChangeLog {
         }
         self.entries.push(entry)?;
         Ok(())
+    }
+
+    /// Leaves the first `len` entries.
+    pub(crate) fn cut_to(&mut self, len: u32)
+        ensures { self.new ≡ take len self.old }
+    {
+        self.entries.truncate(len as usize);
     }
 
     /// Takes the latest entry out.

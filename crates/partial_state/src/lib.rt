@@ -6,6 +6,7 @@ mod change_log;
 mod copies;
 mod first_open;
 mod generation;
+mod generation_log;
 mod kind_changes;
 mod kinds;
 mod new_row;
