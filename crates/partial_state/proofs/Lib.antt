@@ -11,6 +11,8 @@ pub mod StoredNarrowings
 pub mod PortNarrowings
 pub mod PortCalls
 pub mod KindLaws
+pub mod MembersInTurn
+pub mod WholeParts
 pub mod StateChanges
 pub mod LoggedChanges
 pub mod LoggedKinds

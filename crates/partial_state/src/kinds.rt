@@ -1,5 +1,5 @@
 //! Sets of types.
-ghost use Rattle.std.specs.Prelude.{◌≡◌, ◌≢◌, ◌<◌, ◌^◌, ℕ, IsTrue, length, if◌then◌else◌};
+ghost use Rattle.std.specs.Prelude.{◌≡◌, ◌≢◌, ◌<◌, ◌^◌, ℕ, IsTrue, length, slice_index_or, if◌then◌else◌};
 ghost use Rattle.std.specs.Int.{bit_at};
 ghost use Rattle.prod_model.specs.Limits.{most_types};
 ghost use Rattle.domain_store.specs.Words.{has_word, NarrowsWords};
@@ -32,6 +32,13 @@ impl KindSet {
         ensures { (t : ℕ) → bit_at result t ≡ (if has_number self.now t then 1 else 0) }
     {
         self.mask
+    }
+
+    /// The first type.
+    pub(crate) fn first(&self) -> u32
+        ensures { result ≡ slice_index_or self.now 0 0 }
+    {
+        self.mask.trailing_zeros()
     }
 
     /// The same types.

@@ -9,12 +9,14 @@ mod generation;
 mod generation_log;
 mod kind_changes;
 mod kinds;
+mod left;
 mod new_row;
 mod openings;
 mod partial;
 mod ports;
 mod row;
 mod values;
+mod whole;
 mod words;
 
 pub use change_log::ChangeLog;

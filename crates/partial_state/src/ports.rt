@@ -3,6 +3,7 @@ ghost use Rattle.std.specs.Prelude.{◌≡◌, ◌≤◌, ◌<◌, nat_le, not};
 ghost use Rattle.port_wildcards.specs.Ports.{IsPort};
 ghost use Rattle.state_space.specs.Sets.{has_number};
 ghost use Rattle.state_space.specs.Ports.{made_here, made_elsewhere};
+ghost use Rattle.state_space.specs.Whole.{is_settled_port};
 ghost use Rattle.partial_state.specs.Views.{state_of_port};
 ghost use Rattle.partial_state.specs.steps.InForm.{NarrowsInPort};
 
@@ -41,6 +42,13 @@ impl MadePort {
         ensures formed { IsPort result }
     {
         self.links
+    }
+
+    /// Whether nothing is left open: it links no later instance, and each possible one.
+    pub(crate) fn is_settled(&self) -> bool
+        ensures { result ≡ is_settled_port self.now }
+    {
+        self.links.is_whole()
     }
 
     /// Made instance `j` must be linked.

@@ -2,6 +2,7 @@
 ghost use Rattle.std.specs.Prelude.{◌≡◌, not, int_le, IfOk, OnErr, IsTrue};
 ghost use Rattle.std.specs.Ordering.{int_eq};
 ghost use Rattle.state_space.specs.Values.{has_value, least, greatest, are_values};
+ghost use Rattle.state_space.specs.Whole.{has_one_value};
 ghost use Rattle.partial_state.specs.Views.{values_of_domain, IsStored};
 ghost use Rattle.partial_state.specs.steps.Bounds.{is_left};
 ghost use Rattle.partial_state.specs.steps.InForm.{NarrowsInForm};
@@ -52,6 +53,13 @@ impl AttributeDomain {
         ensures { result ≡ greatest self.now }
     {
         high(&self.domain)
+    }
+
+    /// Whether there is just one value, in constant time.
+    pub(crate) fn has_one(&self) -> bool
+        ensures { result ≡ has_one_value self.now }
+    {
+        self.low() == self.high()
     }
 
     /// Whether it is one of the values.
