@@ -26,3 +26,6 @@ pub mod PortGenerations
 pub mod Generations
 pub mod NextInstances
 pub mod GenerationLogs
+pub mod Counted
+pub mod MarkedTypes
+pub mod RootMade

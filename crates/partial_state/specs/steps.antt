@@ -7,3 +7,4 @@ pub mod Openings
 pub mod NewRows
 pub mod Generated
 pub mod GenerationLog
+pub mod Marks

@@ -14,6 +14,7 @@ mod new_row;
 mod openings;
 mod partial;
 mod ports;
+mod root;
 mod row;
 mod values;
 mod whole;

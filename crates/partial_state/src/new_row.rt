@@ -244,8 +244,8 @@ fn whole_port(problem: &Problem, types: u128, port: u32, made: InstanceSet) -> O
 }
 
 /// The greatest count of links that a type of the mask allows the port, or `most` if that is
-/// greater. Only the types of the mask are gone over, so for all ports together the cost is linear
-/// in what the types have.
+/// greater. Only the types of the mask are gone over, so all ports together take one step for each
+/// port of each type, and in a step the port is found among the at most 16 of the type.
 fn greatest_count(problem: &Problem, types: u128, port: u32, most: u32) -> u32
     ensures { result
         ≡ fold max most (map (λ q. q.high) (ports_under problem.now (kinds_of types) port)) }
