@@ -4,6 +4,7 @@ ghost use Rattle.std.specs.Option.{option_map_or};
 ghost use Rattle.std.specs.List.{list_all, zip};
 ghost use Rattle.state_space.specs.Sets.{has_number};
 ghost use Rattle.state_space.specs.State.{IsState};
+ghost use Rattle.state_space.specs.Covers.{Covers};
 ghost use Rattle.state_space.specs.Whole.{has_one_value, is_settled_port, is_whole_of, is_whole, whole_configuration};
 ghost use Rattle.partial_state.specs.Masks.{kinds_of};
 
@@ -11,7 +12,7 @@ use crate::partial::Partial;
 use crate::ports::MadePort;
 use crate::row::InstanceRow;
 use crate::values::AttributeDomain;
-use config_value::Configuration;
+use config_value::{Configuration, Instance};
 use prod_model::{Items, Problem};
 use std::alloc::{AllocError, Global};
 
@@ -25,19 +26,30 @@ impl Partial {
         self.made.iter().all(|row| self.is_whole_row(row))
     }
 
-    /// The configuration of a whole state, the only one that it covers of those with just the made
-    /// instances: the type of each, its only values and all its links. `AllocError` where memory
+    /// The configuration of a whole state: the type of each made instance, its only values and all
+    /// its links. No other one with just the made instances is covered. `AllocError` where memory
     /// runs out.
     pub fn to_configuration(&self, problem: &Problem) -> Result<Configuration, AllocError>
         requires state { IsState problem.now self.now }
         requires whole { IsTrue (is_whole self.now) }
-        ensures { IfOk result (λ c. c ≡ whole_configuration problem.now self.now) }
+        ensures left { IfOk result (λ c. c ≡ whole_configuration problem.now self.now) }
+        ensures covered { IfOk result (λ c. Covers problem.now self.now c) }
+    {
+        // The model is valid.
+        let _ = problem.model();
+        let instances = self.instances_left(problem)?;
+        Ok(Configuration::from_list(instances))
+    }
+
+    fn instances_left(&self, problem: &Problem) -> Result<Items<Instance>, AllocError>
+        requires { IsState problem.now self.now }
+        ensures { IfOk result (λ ys. ys ≡ whole_configuration problem.now self.now) }
     {
         let mut instances = Vec::with_capacity(self.alloc, self.made.len())?;
         for row in &self.made {
             instances.push(row.instance_left(self.alloc, problem)?)?;
         }
-        Ok(Configuration::from_list(Items::from_vec(instances)))
+        Ok(Items::from_vec(instances))
     }
 
     fn is_whole_row(&self, row: &InstanceRow) -> bool
