@@ -29,3 +29,6 @@ pub mod GenerationLogs
 pub mod Counted
 pub mod MarkedTypes
 pub mod RootMade
+pub mod KindsWithin
+pub mod LinkCounts
+pub mod SharedLaws

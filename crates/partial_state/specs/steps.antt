@@ -8,3 +8,4 @@ pub mod NewRows
 pub mod Generated
 pub mod GenerationLog
 pub mod Marks
+pub mod Shared

@@ -93,7 +93,7 @@ impl Partial {
 }
 
 /// The leaves that are type `t` or under it, as a mask. A number that is no type has none.
-fn leaves_under(problem: &Problem, t: u32) -> u128
+pub(crate) fn leaves_under(problem: &Problem, t: u32) -> u128
     ensures { IsMask result (λ u. is_leaf problem.now u && is_a problem.now u t) }
 {
     if problem.model().is_type(t) {

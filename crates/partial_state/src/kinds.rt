@@ -1,9 +1,11 @@
 //! Sets of types.
-ghost use Rattle.std.specs.Prelude.{◌≡◌, ◌≢◌, ◌<◌, ◌^◌, ℕ, IsTrue, length, slice_index_or, if◌then◌else◌};
+ghost use Rattle.std.specs.Prelude.{◌≡◌, ◌≢◌, ◌<◌, ◌^◌, ℕ, IsTrue, length, not, slice_index_or, if◌then◌else◌};
 ghost use Rattle.std.specs.Int.{bit_at};
+ghost use Rattle.std.specs.List.{list_all};
 ghost use Rattle.prod_model.specs.Limits.{most_types};
 ghost use Rattle.domain_store.specs.Words.{has_word, NarrowsWords};
 ghost use Rattle.state_space.specs.Sets.{has_number, is_set_below, Reduces};
+ghost use Rattle.partial_state.specs.Masks.{kinds_of};
 
 use domain_store::Change;
 use std::marker::Model;
@@ -46,6 +48,20 @@ impl KindSet {
         ensures { result ≡ self.now }
     {
         KindSet { mask: self.mask }
+    }
+
+    /// Whether each of the types is one of the mask.
+    pub(crate) fn is_within(&self, mask: u128) -> bool
+        ensures { result ≡ list_all (has_number (kinds_of mask)) self.now }
+    {
+        self.mask & mask == self.mask
+    }
+
+    /// Whether none of them is.
+    pub(crate) fn is_apart(&self, mask: u128) -> bool
+        ensures { result ≡ list_all (λ t. not (has_number (kinds_of mask) t)) self.now }
+    {
+        self.mask & mask == 0
     }
 
     /// Leaves the types of the mask, unless there is none.

@@ -1,0 +1,6 @@
+use Rattle.std.proofs.Common.{arith}
+use Rattle.partial_state.proofs.KindsWithin.{apart_is}
+use Rattle.partial_state.proofs.kinds.KindSet.is_apart.Goals as goal
+
+pub returns : goal.returns
+returns c = rw (← c.self.view_is) (apart_is c.self.inside.mask c.args.mask c.self.invariant.1 (omega (arith, c.ranges.mask)))
