@@ -32,3 +32,4 @@ pub mod RootMade
 pub mod KindsWithin
 pub mod LinkCounts
 pub mod SharedLaws
+pub mod OpenPortLaws

@@ -9,3 +9,4 @@ pub mod Generated
 pub mod GenerationLog
 pub mod Marks
 pub mod Shared
+pub mod OpenPort

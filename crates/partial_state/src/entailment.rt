@@ -1,4 +1,4 @@
-//! Which literals a state entails, and which fit it.
+//! Which literals a state entails.
 ghost use Rattle.std.specs.Prelude.{◌≡◌};
 ghost use Rattle.state_space.specs.State.{IsState};
 ghost use Rattle.state_space.specs.Entails.{entails as entails_of};

@@ -6,6 +6,7 @@ mod change_log;
 mod copies;
 mod entailment;
 mod first_open;
+mod fitting;
 mod generation;
 mod generation_log;
 mod kind_changes;

@@ -139,7 +139,7 @@ impl Partial {
         }
     }
 
-    fn made_port(&self, i: u32, port: u32) -> Option<&MadePort>
+    pub(crate) fn made_port(&self, i: u32, port: u32) -> Option<&MadePort>
         ensures { option_copied result ≡ port_at self.now i port }
     {
         match self.made.get(i as usize) {
