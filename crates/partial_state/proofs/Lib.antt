@@ -33,3 +33,5 @@ pub mod KindsWithin
 pub mod LinkCounts
 pub mod SharedLaws
 pub mod OpenPortLaws
+pub mod CutAnswers
+pub mod LoggedCuts

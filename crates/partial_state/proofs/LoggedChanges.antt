@@ -9,7 +9,7 @@ use Rattle.state_space.specs.Values.{Values}
 use Rattle.state_space.specs.Made.{MadeInstance, domain_of, port_of_made}
 use Rattle.state_space.specs.Ports.{PortState, PortLinks}
 use Rattle.state_space.specs.State.{State, domain_at, port_at, changed_at, with_domain, with_port}
-use Rattle.state_space.specs.Undo.{OldValue, Domain, Port}
+use Rattle.state_space.specs.Undo.{OldValue, Port}
 use Rattle.partial_state.specs.steps.InForm.{NarrowsInForm, NarrowsInPort}
 use Rattle.partial_state.specs.steps.Logged.{ChangesDomain, ChangesPort}
 
@@ -43,34 +43,6 @@ module _ (s : State) (i a : ℕ) (d : Values) (is : domain_at s i a ≡ Some d) 
       ap (λ m. record s { made = m })
       (changed_same (λ x. record x { domains = slice_set x.domains a (Some d) }) s.made i
       (λ x at. ap (λ ds. record x { domains = ds }) (set_same x.domains a d (at_instance x at))))
-
-  -- the old domain brings the state back
-  pub domain_back : (e : Values) → with_domain i a d (with_domain i a e s) ≡ s
-  domain_back e =
-      ap (λ m. record s { made = m })
-      (changed_twice (λ x. record x { domains = slice_set x.domains a (Some d) }) (λ x. record x { domains = slice_set x.domains a (Some e) }) s.made i
-      ∙ changed_same (λ x. record x { domains = slice_set (slice_set x.domains a (Some e)) a (Some d) }) s.made i
-      (λ x at. ap (λ ds. record x { domains = ds }) (set_twice x.domains a (Some e) (Some d) ∙ set_same x.domains a d (at_instance x at))))
-
-  pub domain_logged : (test : ℤ → Bool) (next : Values) (new : State) (log longer : List OldValue) → NarrowsInForm test Smaller d next
-      → new ≡ with_domain i a next s → longer ≡ log ++ Domain i a d ∷ [] → ChangesDomain i a test Smaller s new log longer
-  domain_logged test next new log longer given becomes pushed = record {
-    narrows = record {
-      before = d;
-      after = next;
-      was = is;
-      narrowed = given.narrowed;
-      formed = given.formed;
-      form = given.form;
-      others = becomes;
-    };
-    logs = record {
-      entries = Domain i a d ∷ [];
-      appended = pushed;
-      back = ap (with_domain i a d) becomes ∙ domain_back next;
-    };
-    same = λ other. absurd (other refl);
-  }
 
   pub domain_kept : (test : ℤ → Bool) (result : Change) (next : Values) (log : List OldValue) → NarrowsInForm test result d next → result ≢ Smaller
       → ChangesDomain i a test result s s log log

@@ -10,3 +10,4 @@ pub mod GenerationLog
 pub mod Marks
 pub mod Shared
 pub mod OpenPort
+pub mod Answered

@@ -20,6 +20,7 @@ mod ports;
 mod root;
 mod row;
 mod shared;
+mod value_changes;
 mod values;
 mod whole;
 mod words;

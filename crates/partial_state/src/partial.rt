@@ -11,10 +11,10 @@ ghost use Rattle.state_space.specs.State.{with_kinds, with_domain, with_port};
 ghost use Rattle.state_space.specs.Undo.{put_back, undone};
 ghost use Rattle.state_space.specs.Changes.{NarrowsKinds, NarrowsDomain, NarrowsPort};
 ghost use Rattle.partial_state.specs.Views.{state_of_port};
-ghost use Rattle.partial_state.specs.steps.Bounds.{is_within, is_left, links_within, IsBelow};
-ghost use Rattle.partial_state.specs.steps.Logged.{ChangesDomain, ChangesPort};
+ghost use Rattle.partial_state.specs.steps.Bounds.{is_within, links_within, IsBelow};
+ghost use Rattle.partial_state.specs.steps.Logged.{ChangesPort};
 
-use crate::bounds::{LinkBound, ValueBound, ValueCut};
+use crate::bounds::{LinkBound, ValueBound};
 use crate::change_log::{ChangeLog, LogEntry, Replaced};
 use crate::copies::copy_slice;
 use crate::kinds::KindSet;
@@ -130,7 +130,7 @@ impl Partial {
         }
     }
 
-    fn domain(&self, i: u32, attr: u32) -> Option<&AttributeDomain>
+    pub(crate) fn domain(&self, i: u32, attr: u32) -> Option<&AttributeDomain>
         ensures { option_copied result ≡ domain_at self.now i attr }
     {
         match self.made.get(i as usize) {
@@ -239,34 +239,6 @@ impl Partial {
 
 /// Narrowings with their log.
 impl Partial {
-    /// Narrows the values of an attribute by a cut, and logs those that it had. The values are
-    /// copied, which takes memory only where they have many intervals.
-    pub(crate) fn change_domain(
-        &mut self,
-        i: u32,
-        attr: u32,
-        cut: ValueCut,
-        log: &mut ChangeLog,
-    ) -> Result<Change, AllocError>
-        requires { IsSome (domain_at self.old i attr) }
-        ensures changed { IfOk result (λ r.
-            ChangesDomain i attr (is_left cut) r self.old self.new log.old log.new) }
-        ensures unchanged { OnErr result (self.new ≡ self.old) }
-        ensures logged { OnErr result (log.new ≡ log.old) }
-    {
-        let values = self.copied_domain(i, attr)?;
-        let mut next = self.copied_domain(i, attr)?;
-        match next.cut(cut)? {
-            Change::Smaller => {
-                log.push(LogEntry::of_domain(i, attr, values))?;
-                self.put_domain(i, attr, next);
-                Ok(Change::Smaller)
-            }
-            Change::Same => Ok(Change::Same),
-            Change::Empty => Ok(Change::Empty),
-        }
-    }
-
     /// Narrows what a port may link by a bound, and logs what it could. The entry takes memory.
     pub(crate) fn change_port(
         &mut self,
@@ -292,16 +264,6 @@ impl Partial {
             }
             Change::Same => Ok(Change::Same),
             Change::Empty => Ok(Change::Empty),
-        }
-    }
-
-    fn copied_domain(&self, i: u32, attr: u32) -> Result<AttributeDomain, AllocError>
-        requires { IsSome (domain_at self.now i attr) }
-        ensures { IfOk result (λ d. domain_at self.now i attr ≡ Some d) }
-    {
-        match self.domain(i, attr) {
-            Some(values) => Ok(values.copy(self.alloc)?),
-            None => unreachable!(),
         }
     }
 }

@@ -4,11 +4,9 @@ ghost use Rattle.std.specs.Ordering.{int_eq};
 ghost use Rattle.state_space.specs.Values.{has_value, least, greatest, are_values};
 ghost use Rattle.state_space.specs.Whole.{has_one_value};
 ghost use Rattle.partial_state.specs.Views.{values_of_domain, IsStored};
-ghost use Rattle.partial_state.specs.steps.Bounds.{is_left};
 ghost use Rattle.partial_state.specs.steps.InForm.{NarrowsInForm};
 ghost use Rattle.partial_state.specs.steps.Narrowed.{NarrowsStored};
 
-use crate::bounds::ValueCut;
 use crate::words;
 use domain_store::{Change, IntDomain, WordDomain};
 use std::alloc::{AllocError, Global};
@@ -89,17 +87,6 @@ impl AttributeDomain {
         ensures unchanged { OnErr result (self.new ≡ self.old) }
     {
         remove(&mut self.domain, n)
-    }
-
-    /// Leaves the values of a cut. After `AllocError` nothing has changed.
-    pub(crate) fn cut(&mut self, cut: ValueCut) -> Result<Change, AllocError>
-        ensures { IfOk result (λ r. NarrowsInForm (is_left cut) r self.old self.new) }
-    {
-        match cut {
-            ValueCut::UpTo(n) => Ok(self.at_most(n)),
-            ValueCut::From(n) => Ok(self.at_least(n)),
-            ValueCut::Without(n) => Ok(self.remove(n)?),
-        }
     }
 
     /// The same values. `AllocError` where memory runs out.
