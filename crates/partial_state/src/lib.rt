@@ -3,6 +3,7 @@
 
 mod bounds;
 mod change_log;
+mod changes;
 mod copies;
 mod entailment;
 mod first_open;
