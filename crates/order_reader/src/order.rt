@@ -19,7 +19,6 @@ use model_reader::{check_plain, earlier_fault, value_of};
 use prod_model::{Model, Order, Problem, Tables};
 use serde_json::Value;
 use std::alloc::{AllocError, Global};
-use type_taxonomy::build;
 
 /// The earlier of two faults, and the only one where there is one.
 fn earlier(first: Option<Fault>, other: Option<Fault>) -> Option<Fault>
@@ -28,17 +27,6 @@ fn earlier(first: Option<Fault>, other: Option<Fault>) -> Option<Fault>
     match other {
         None => first,
         Some(other) => Some(earlier_fault(first, other)),
-    }
-}
-
-/// The tables of a valid model.
-fn tables_of(alloc: Global, model: &Model) -> Result<Tables, AllocError>
-    requires { IsValid model.now }
-    ensures { IfOk result (λ tables. AreTablesOf model.now tables) }
-{
-    match build(alloc, model) {
-        Ok(tables) => Ok(tables),
-        Err(_) => Err(AllocError),
     }
 }
 
@@ -85,7 +73,7 @@ fn order_of(alloc: Global, model: &Model, tables: &Tables, value: &Value) -> Res
 }
 
 /// The valid order that a file stands for, for a problem. It takes time linear in the file, besides
-/// what the model's tables and the bounds of expressions take.
+/// what the bounds of expressions take. The tables are those of the problem.
 ///
 /// # Errors
 ///
@@ -97,7 +85,5 @@ pub fn read_order(alloc: Global, problem: &Problem, bytes: &[u8]) -> Result<Orde
     ensures fault { IfErr result (IsRefusalOfFile (HasOrderFault problem.now) bytes.now) }
 {
     let value = value_of(alloc, bytes)?;
-    let model = problem.model();
-    let tables = tables_of(alloc, model).map_err(Refusal::Memory)?;
-    order_of(alloc, model, &tables, &value)
+    order_of(alloc, problem.model(), problem.tables(), &value)
 }
