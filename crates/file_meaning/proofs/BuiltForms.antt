@@ -1,5 +1,5 @@
 -- What the building of an expression needs.
-use Rattle.std.proofs.Common.{◌≡◌, ℕ, ◌+◌, ◌*◌, ◌<◌, ◌≢◌, List, [], ◌∷◌, map, refl, sym, ap, get_or, arith, zero, suc, length, Option, ◌∙◌, true, false}
+use Rattle.std.proofs.Common.{◌≡◌, ℕ, ◌<◌, ◌≢◌, List, [], ◌∷◌, map, refl, sym, ap, get_or, arith, zero, suc, length, Option, ◌∙◌}
 use Rattle.std.specs.Prelude.{IsFalse, pos}
 use Rattle.std.proofs.lemmas.Bool.{false≢true}
 use Rattle.serde_json.specs.Data.{Data}

@@ -22,7 +22,6 @@ pub mod PassedOrders
 pub mod PassedTypes
 pub mod PassedValues
 pub mod RuleLaws
-pub mod SameNames
 pub mod TypeNames
 pub mod ValidFiles
 pub mod ValidOrders

@@ -1,4 +1,5 @@
 pub mod Expressions
+pub mod Named
 pub mod ModelOf
 pub mod Faults
 pub mod Stands

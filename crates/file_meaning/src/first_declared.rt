@@ -1,14 +1,14 @@
-//! The first declarations of a type's attributes and ports.
+//! The names of a type's attributes and ports.
 ghost use Rattle.std.specs.Prelude.{◌≡◌, ℕ, List, [], ◌++◌, map, reverse, IfOk, OnOk};
 ghost use Rattle.std.specs.List.{fold};
 ghost use Rattle.std.specs.Option.{option_map_or};
 ghost use Rattle.prod_model.specs.declared.model.TypeDecl.{TypeDecl};
 ghost use Rattle.prod_model.specs.Forest.{line, line_within};
-ghost use Rattle.prod_model.specs.Taxonomy.{declarations_of, attributes_of, ports_of};
 ghost use Rattle.prod_model.specs.Valid.{IsDeclared};
-ghost use Rattle.file_meaning.specs.steps.FirstDeclared.{with_new, first_declarations};
+ghost use Rattle.file_meaning.specs.Named.{attribute_names, port_names};
+ghost use Rattle.file_meaning.specs.steps.FirstDeclared.{with_new, names_of, first_names};
 
-use indexmap::IndexSet;
+use file_values::Names;
 use prod_model::{AttrDecl, Items, Model, PortDecl, TypeDecl};
 use std::alloc::{AllocError, Global};
 
@@ -53,32 +53,32 @@ impl Declaration for PortDecl {
     }
 }
 
-/// The first declarations of a type's attributes, in the order of its attributes. They have the
-/// attributes' names. It goes once over the declarations along the type's line.
-pub(crate) fn first_attributes<'a>(
+/// The names of a type's attributes, in the order of its attributes. It goes once over the
+/// declarations along the type's line.
+#[tactic(auto, using(crate::proofs::TypeNames::attribute_names_declared))]
+pub(crate) fn attribute_names<'m>(
     alloc: Global,
-    model: &'a Model,
+    model: &'m Model,
     t: u32,
-) -> Result<Vec<&'a AttrDecl>, AllocError>
+) -> Result<Names<'m>, AllocError>
     requires declared { IsDeclared model.now }
-    ensures { IfOk result (λ firsts. map (λ d. d.now.name) firsts.items
-        ≡ map (λ e. e.name) (attributes_of model.now.types t)) }
+    ensures { IfOk result (λ names. names ≡ attribute_names model.now t) }
 {
-    first_declarations(alloc, &model.types, t)
+    first_names::<AttrDecl>(alloc, &model.types, t)
 }
 
-/// The first declarations of a type's ports, in the order of its ports. They have the ports'
-/// names. It goes once over the declarations along the type's line.
-pub(crate) fn first_ports<'a>(
+/// The names of a type's ports, in the order of its ports. It goes once over the declarations
+/// along the type's line.
+#[tactic(auto, using(crate::proofs::TypeNames::port_names_declared))]
+pub(crate) fn port_names<'m>(
     alloc: Global,
-    model: &'a Model,
+    model: &'m Model,
     t: u32,
-) -> Result<Vec<&'a PortDecl>, AllocError>
+) -> Result<Names<'m>, AllocError>
     requires declared { IsDeclared model.now }
-    ensures { IfOk result (λ firsts. map (λ d. d.now.name) firsts.items
-        ≡ map (λ e. e.name) (ports_of model.now.types t)) }
+    ensures { IfOk result (λ names. names ≡ port_names model.now t) }
 {
-    first_declarations(alloc, &model.types, t)
+    first_names::<PortDecl>(alloc, &model.types, t)
 }
 
 /// A type and its ancestors, the first of them first.
@@ -113,63 +113,45 @@ fn put_line(
     Ok(())
 }
 
-/// The first declarations of the names that a type has, in order. A narrowing has a name that is
-/// there already.
-#[tactic(auto, unfolding(crate::specs::steps::FirstDeclared::first_declarations))]
-fn first_declarations<'a, D: Declaration>(
+/// The names that a type has, each once. A narrowing has a name that is there already.
+#[tactic(auto, unfolding(crate::specs::steps::FirstDeclared::first_names))]
+fn first_names<'m, D: Declaration + 'm>(
     alloc: Global,
-    types: &'a Items<TypeDecl>,
+    types: &'m Items<TypeDecl>,
     t: u32,
-) -> Result<Vec<&'a D>, AllocError>
-    ensures { IfOk result (λ firsts. map (λ d. d.now) firsts.items
-        ≡ first_declarations D.declared D.name_of types.now t) }
+) -> Result<Names<'m>, AllocError>
+    ensures { IfOk result (λ names. names ≡ first_names D.declared D.name_of types.now t) }
 {
-    let mut firsts = Vec::new(alloc);
-    let mut names = IndexSet::new(alloc);
+    let mut names = Names::new(alloc);
     let down = line_down(alloc, types, t)?;
     for u in &down {
-        put_declarations(&mut firsts, &mut names, types, *u)?;
+        put_names::<D>(&mut names, types, *u)?;
     }
-    Ok(firsts)
+    Ok(names)
 }
 
-/// Appends the declarations of a type that have new names.
-fn put_declarations<'a, D: Declaration>(
-    firsts: &mut Vec<&'a D>,
-    names: &mut IndexSet<&'a [u8]>,
-    types: &'a Items<TypeDecl>,
+/// Puts in the names that a type declares.
+fn put_names<'m, D: Declaration + 'm>(
+    names: &mut Names<'m>,
+    types: &'m Items<TypeDecl>,
     t: u32,
 ) -> Result<(), AllocError>
-    requires { map (λ n. n.now) names.old.keys ≡ map (λ e. D.name_of e.now) firsts.old.items }
-    ensures names { OnOk result (map (λ n. n.now) names.new.keys
-        ≡ map (λ e. D.name_of e.now) firsts.new.items) }
-    ensures firsts { OnOk result (map (λ e. e.now) firsts.new.items
-        ≡ fold (with_new D.name_of) (map (λ e. e.now) firsts.old.items)
-        (declarations_of D.declared D.name_of types.now t)) }
+    ensures { OnOk result (names.new
+        ≡ fold with_new names.old (names_of D.declared D.name_of types.now t)) }
 {
     let Some(kind) = types.get(t as usize) else {
         return Ok(())
     };
     for d in D::all_of(kind) {
-        put_new(firsts, names, d)?;
+        put_name(names, d.name())?;
     }
     Ok(())
 }
 
-/// Appends a declaration, unless there is one of its name.
-fn put_new<'a, D: Declaration>(
-    firsts: &mut Vec<&'a D>,
-    names: &mut IndexSet<&'a [u8]>,
-    d: &'a D,
-) -> Result<(), AllocError>
-    requires { map (λ n. n.now) names.old.keys ≡ map (λ e. D.name_of e.now) firsts.old.items }
-    ensures names { OnOk result (map (λ n. n.now) names.new.keys
-        ≡ map (λ e. D.name_of e.now) firsts.new.items) }
-    ensures firsts { OnOk result (map (λ e. e.now) firsts.new.items
-        ≡ with_new D.name_of (map (λ e. e.now) firsts.old.items) d.now) }
+/// Puts in a name, unless it is there.
+pub(crate) fn put_name<'m>(names: &mut Names<'m>, name: &'m [u8]) -> Result<(), AllocError>
+    ensures { OnOk result (names.new ≡ with_new names.old name.now) }
 {
-    if names.insert(d.name())? {
-        firsts.push(d)?;
-    }
+    names.insert(name)?;
     Ok(())
 }

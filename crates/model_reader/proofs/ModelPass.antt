@@ -1,5 +1,5 @@
 -- The model that a file without faults stands for, and its tables.
-use Rattle.std.proofs.Common.{◌≡◌, List, map, refl, sym, ◌∙◌, ap₂, subst}
+use Rattle.std.proofs.Common.{◌≡◌, List, map, sym, ◌∙◌, ap₂, subst}
 use Rattle.serde_json.specs.Data.{Data}
 use Rattle.prod_model.specs.Taxonomy.{tables_of, inverse_of}
 use Rattle.prod_model.specs.Valid.{IsValid}

@@ -14,7 +14,7 @@ mod types;
 
 pub use declared::{check_values, member_of, null};
 pub use file::{too_long, value_of};
-pub use file_meaning::{Refusal, read_expr};
+pub use file_meaning::{NamedTables, Refusal, read_expr};
 pub use file_values::{Fault, FaultCode, Part, write_place};
 pub use inverses::link_inverses;
 pub use known::check_known;

@@ -1,17 +1,17 @@
 //! The first fault of expressions that are stated in a list.
 ghost use Rattle.std.specs.Prelude.{◌≡◌, ◌<◌, ◌∷◌, ◌++◌, [], length, Some, None, IfOk, IfErr};
 ghost use Rattle.serde_json.specs.View.{view};
-ghost use Rattle.prod_model.specs.Taxonomy.{AreTablesOf};
 ghost use Rattle.prod_model.specs.Valid.{IsDeclared};
 ghost use Rattle.file_values.specs.declared.part.Part.TheVariants.{At as at_place};
 ghost use Rattle.file_values.specs.Places.{under};
 ghost use Rattle.file_meaning.specs.Expressions.{expression_of};
 ghost use Rattle.file_meaning.specs.Faults.{fault, HasStatedFault};
+ghost use Rattle.file_meaning.specs.Named.{AreNamedTablesOf};
 ghost use Rattle.model_reader.specs.Stated.{earlier_fault, FindsFault, IsRefusalOfStated};
 
-use file_meaning::{Refusal, read_expr};
+use file_meaning::{NamedTables, Refusal, read_named};
 use file_values::{Fault, Key, Part};
-use prod_model::{Expr, Items, Model, Tables};
+use prod_model::{Expr, Items, Model};
 use serde_json::Value;
 use std::alloc::{AllocError, Global};
 
@@ -55,7 +55,7 @@ pub fn place_in(alloc: Global, list: Key, index: usize, key: Key) -> Result<Item
     Items::from_slice(alloc, &[first, Part::At(index as u32), last])
 }
 
-/// Reads an expression that stands at a place of a file, as `read_expr` does.
+/// Reads an expression that stands at a place of a file, as `read_named` does.
 ///
 /// # Errors
 ///
@@ -64,14 +64,14 @@ pub fn place_in(alloc: Global, list: Key, index: usize, key: Key) -> Result<Item
 pub fn read_stated(
     alloc: Global,
     model: &Model,
-    tables: &Tables,
+    named: &NamedTables<'_>,
     front: Items<Part>,
     value: &Value,
     at: u32,
     truth: bool,
 ) -> Result<Expr, Refusal>
     requires declared { IsDeclared model.now }
-    requires tables { AreTablesOf model.now tables.now }
+    requires named { AreNamedTablesOf model.now named.now }
     requires at { at < length model.now.types }
     ensures expr { IfOk result
         (λ e. e ≡ expression_of model.now (view value.now) (Some at)) }
@@ -80,7 +80,7 @@ pub fn read_stated(
     ensures fault { IfErr result (IsRefusalOfStated model.now
         (record { place = front; value = view value.now; of = at; truth = truth } ∷ [])) }
 {
-    match read_expr(alloc, model, tables, value, at, truth) {
+    match read_named(alloc, model, named, value, at, truth) {
         Ok(expr) => Ok(expr),
         Err(Refusal::Memory(e)) => Err(Refusal::Memory(e)),
         Err(Refusal::Fault(own)) => match placed(front, own) {

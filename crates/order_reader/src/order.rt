@@ -12,8 +12,8 @@ ghost use Rattle.model_reader.specs.Stated.{earlier_fault, FindsFault};
 
 use crate::criteria::criteria_in;
 use crate::requests::requests_in;
-use file_meaning::Refusal;
 use file_meaning::laws::faultless_is_valid_order;
+use file_meaning::{NamedTables, Refusal};
 use file_values::{Fault, Format, Key, Kind, items_at};
 use model_reader::{check_plain, earlier_fault, value_of};
 use prod_model::{Model, Order, Problem, Tables};
@@ -45,10 +45,11 @@ fn wishes_in(
     ensures order { IfOk result
         (λ r. r.1 ≡ None → r.0 ≡ order_in model.now (view value.now)) }
 {
+    let named = NamedTables::of(alloc, model, tables)?;
     let list = items_at(value, Key::Requests);
-    let (requests, first) = requests_in(alloc, model, tables, list)?;
+    let (requests, first) = requests_in(alloc, model, &named, list)?;
     let others = items_at(value, Key::Criteria);
-    let (criteria, other) = criteria_in(alloc, model, tables, others)?;
+    let (criteria, other) = criteria_in(alloc, model, &named, others)?;
     Ok((Order { requests, criteria }, earlier(first, other)))
 }
 

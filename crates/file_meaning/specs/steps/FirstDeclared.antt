@@ -1,24 +1,22 @@
--- The first declaration of each name.
-use Rattle.std.specs.Prelude.{ℕ, List, [], ◌∷◌, ◌++◌, reverse, if◌then◌else◌}
+-- The names that a type has, each where it is declared first.
+use Rattle.std.specs.Prelude.{ℕ, List, [], ◌∷◌, ◌++◌, map, reverse, if◌then◌else◌}
 use Rattle.std.specs.List.{list_any, flat_map, fold}
 use Rattle.prod_model.specs.declared.model.TypeDecl.{TypeDecl}
 use Rattle.prod_model.specs.Names.{same_text}
 use Rattle.prod_model.specs.Forest.{line}
 use Rattle.prod_model.specs.Taxonomy.{declarations_of}
 
-module _ {D : Type 0} (name_of : D → List ℕ) where
-  -- with one more declaration, unless there is one of its name
-  abbrev pub with_new : List D → D → List D
-  with_new firsts d =
-      if list_any (λ e. same_text (name_of d) (name_of e)) firsts then firsts else firsts ++ d ∷ []
+-- with one more name, unless it is among them
+abbrev pub with_new : List (List ℕ) → List ℕ → List (List ℕ)
+with_new names name = if list_any (same_text name) names then names else names ++ name ∷ []
 
-  -- those whose name none before has
-  abbrev pub firsts_of : List D → List D
-  firsts_of declarations = fold with_new [] declarations
+-- the names that a type declares
+abbrev pub names_of : {D : Type 0} → (TypeDecl → List D) → (D → List ℕ) → List TypeDecl → ℕ
+    → List (List ℕ)
+names_of declared name_of types t = map name_of (declarations_of declared name_of types t)
 
--- the first declaration of each name that a type has, from the first of its ancestors down to the
--- type
-unfoldable pub first_declarations : {D : Type 0} → (TypeDecl → List D) → (D → List ℕ)
-    → List TypeDecl → ℕ → List D
-first_declarations declared name_of types t =
-    firsts_of name_of (flat_map (declarations_of declared name_of types) (reverse (line types t)))
+-- the names that a type has, each once, from the first of its ancestors down to the type
+unfoldable pub first_names : {D : Type 0} → (TypeDecl → List D) → (D → List ℕ)
+    → List TypeDecl → ℕ → List (List ℕ)
+first_names declared name_of types t =
+    fold with_new [] (flat_map (names_of declared name_of types) (reverse (line types t)))

@@ -46,4 +46,4 @@ all_at-expression_of-requires s c =
     let within : c.loop-arg.arg-index < length c.args.args.now = search rules in
     let is : c.arg-item.result ≡ get_or c.args.args.now c.loop-arg.arg-index c.arg-item.result = search rules in
     let sized = size_within c.args.args.now c.loop-arg.arg-index c.arg-item.result within is in
-    (omega (arith, c.decreases, sized), (c.requires.declared, c.requires.tables))
+    (omega (arith, c.decreases, sized), (c.requires.declared, c.requires.named))

@@ -1,8 +1,7 @@
-use Rattle.std.proofs.lemmas.Result.{IfOk-weaker, IfErr-weaker}
 use Rattle.serde_json.specs.View.{view}
 use Rattle.file_meaning.specs.Refused.{IsRefusalOfExpr}
 use Rattle.file_meaning.proofs.OwnFaults.{refusal_same, own_form, refusal_is_own, judged_faultless}
-use Rattle.file_meaning.proofs.expression.read_expr.Goals as goal
+use Rattle.file_meaning.proofs.expression.read_named.Goals as goal
 
 pub returns-in_err-refuse_misformed-clause-fault : goal.returns-in_err-refuse_misformed-clause-fault
 returns-in_err-refuse_misformed-clause-fault c =
