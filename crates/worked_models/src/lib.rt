@@ -1,0 +1,20 @@
+//! Worked models and answers, as the readers take them: verdicts, values of expressions and ranks,
+//! worked out by hand.
+#![tactic(auto)]
+
+#[cfg(test)]
+mod expressions;
+#[cfg(test)]
+mod largest;
+#[cfg(test)]
+mod literals;
+#[cfg(test)]
+mod models;
+#[cfg(test)]
+mod nogoods;
+#[cfg(test)]
+mod ranks;
+#[cfg(test)]
+mod satisfying;
+#[cfg(test)]
+mod verdicts;

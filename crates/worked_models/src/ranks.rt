@@ -1,0 +1,89 @@
+//! The order of configurations by criteria and then by key, worked out by hand.
+ghost use Rattle.std.specs.Prelude.{IsTrue};
+ghost use Rattle.config_value.specs.Shaped.{is_shaped};
+
+use crate::models::RACKS;
+use crate::satisfying::{order_of, problem_of, satisfying};
+use criteria_order::rank_cmp;
+use prod_model::Problem;
+use std::alloc::Global;
+use std::cmp::Ordering;
+use std::process::Abort;
+use std::test::Fail;
+
+/// It costs 50.
+const EMPTY: &str = "preferred\n0 Rack price=50 cards:\n";
+
+/// It costs 60, and has a power of 5.
+const SMALL: &str = "preferred\n0 Rack price=50 cards:1\n1 Small price=10 power=5\n";
+
+/// It costs 68, and has a power of 12.
+const BIG: &str = "preferred\n0 Rack price=50 cards:1\n1 Big price=18 power=12\n";
+
+/// It costs 78, and has a power of 17.
+const BOTH: &str =
+    "preferred\n0 Rack price=50 cards:1,2\n1 Small price=10 power=5\n2 Big price=18 power=12\n";
+
+/// The same cards in the other order.
+const REVERSED: &str =
+    "preferred\n0 Rack price=50 cards:1,2\n1 Big price=18 power=12\n2 Small price=10 power=5\n";
+
+const NO_CRITERIA: &str = "{\"format\":\"order 1\"}";
+
+const CHEAPEST: &str = "{\"format\":\"order 1\",\"criteria\":[\
+    {\"name\":\"cost\",\"minimise\":[\"total\",\"Item\",\"price\"]}]}";
+
+const STRONGEST: &str = "{\"format\":\"order 1\",\"criteria\":[\
+    {\"name\":\"power\",\"maximise\":[\"sum\",\"cards\",\"power\"]}]}";
+
+const CHEAPEST_THEN_STRONGEST: &str = "{\"format\":\"order 1\",\"criteria\":[\
+    {\"name\":\"cost\",\"minimise\":[\"total\",\"Item\",\"price\"]},\
+    {\"name\":\"power\",\"maximise\":[\"sum\",\"cards\",\"power\"]}]}";
+
+const STRONGEST_THEN_CHEAPEST: &str = "{\"format\":\"order 1\",\"criteria\":[\
+    {\"name\":\"power\",\"maximise\":[\"sum\",\"cards\",\"power\"]},\
+    {\"name\":\"cost\",\"minimise\":[\"total\",\"Item\",\"price\"]}]}";
+
+const FEWEST_THEN_STRONGEST: &str = "{\"format\":\"order 1\",\"criteria\":[\
+    {\"name\":\"cards\",\"minimise\":[\"number\",\"Card\"]},\
+    {\"name\":\"power\",\"maximise\":[\"sum\",\"cards\",\"power\"]}]}";
+
+/// An order, two answers, and how the first one ranks.
+type Row = (&'static str, &'static str, &'static str, Ordering);
+
+const ROWS: [Row; 14] = [
+    (NO_CRITERIA, EMPTY, SMALL, Ordering::Less),
+    (NO_CRITERIA, SMALL, BIG, Ordering::Less),
+    (NO_CRITERIA, BOTH, REVERSED, Ordering::Less),
+    (NO_CRITERIA, BIG, BIG, Ordering::Equal),
+    (NO_CRITERIA, BOTH, BIG, Ordering::Greater),
+    (CHEAPEST, SMALL, BIG, Ordering::Less),
+    (CHEAPEST, BOTH, SMALL, Ordering::Greater),
+    (STRONGEST, SMALL, BIG, Ordering::Greater),
+    (STRONGEST, BOTH, SMALL, Ordering::Less),
+    (STRONGEST, REVERSED, BOTH, Ordering::Greater),
+    (CHEAPEST_THEN_STRONGEST, BIG, BOTH, Ordering::Less),
+    (STRONGEST_THEN_CHEAPEST, BIG, BOTH, Ordering::Greater),
+    (FEWEST_THEN_STRONGEST, SMALL, BIG, Ordering::Greater),
+    (FEWEST_THEN_STRONGEST, EMPTY, BOTH, Ordering::Less),
+];
+
+fn ranks(alloc: Global, problem: &Problem, row: &Row) -> Result<Ordering, Fail> {
+    let order = order_of(alloc, problem, row.0)?;
+    let a = satisfying(alloc, problem, row.1)?;
+    let b = satisfying(alloc, problem, row.2)?;
+    Ok(rank_cmp(problem, &order, &a, &b))
+}
+
+fn check_ranks(rt: &impl Abort, alloc: Global, problem: &Problem) -> Result<(), Fail> {
+    for row in &ROWS {
+        assert_eq!(rt; ranks(alloc, problem, row)?, row.3, "{row:?}");
+    }
+    Ok(())
+}
+
+#[test]
+fn ranks_by_criteria_and_then_by_key(rt: HostRuntime) -> Result<(), Fail> {
+    let problem = problem_of(rt.alloc(), RACKS)?;
+    check_ranks(&rt, rt.alloc(), &problem)
+}
