@@ -11,5 +11,4 @@ pub mod PreferredLaws
 pub mod CommandLaws
 pub mod OutcomeLaws
 pub mod RunLaws
-pub mod Wishes
 pub mod StatusLaws

@@ -11,8 +11,6 @@ mod run;
 mod status;
 mod texts;
 mod walk;
-#[cfg(test)]
-mod worked;
 
 use cfg_io::{DiskShelf, OutSink};
 pub use run::run_alone;
