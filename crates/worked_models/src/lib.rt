@@ -3,7 +3,11 @@
 #![tactic(auto)]
 
 #[cfg(test)]
+mod changes;
+#[cfg(test)]
 mod expressions;
+#[cfg(test)]
+mod first_state;
 #[cfg(test)]
 mod largest;
 #[cfg(test)]

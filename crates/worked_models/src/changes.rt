@@ -1,0 +1,331 @@
+//! What each change of a worked rack's states does and logs, and going back.
+ghost use Rattle.std.specs.Prelude.{◌≡◌};
+ghost use Rattle.state_space.specs.State.{IsState};
+
+use crate::models::RACKS;
+use crate::satisfying::problem_of;
+use canonical_form::write_answer;
+use config_value::Literal;
+use domain_store::Change;
+use partial_state::{ChangeLog, Partial};
+use prod_model::Problem;
+use std::alloc::Global;
+use std::process::Abort;
+use std::test::Fail;
+
+// Types count from `Item` 0, `Rack` 1, `Card` 2, `Small` 3 to `Big` 4, the attributes are price 0
+// and power 1, and the port is cards 0.
+
+/// A literal, what the change by it does, and how many old values are logged then.
+type Step = (Literal, Change, u32);
+
+/// A rack of a price of 50 with one small card.
+const STEPS: [Step; 17] = [
+    (
+        Literal::AtLeast {
+            instance: 0,
+            attr: 0,
+            value: 50,
+        },
+        Change::Smaller,
+        1,
+    ),
+    (
+        Literal::AtMost {
+            instance: 0,
+            attr: 0,
+            value: 49,
+        },
+        Change::Empty,
+        1,
+    ),
+    (
+        Literal::AtMost {
+            instance: 0,
+            attr: 0,
+            value: 50,
+        },
+        Change::Smaller,
+        2,
+    ),
+    (
+        Literal::ValueIsNot {
+            instance: 0,
+            attr: 0,
+            value: 7,
+        },
+        Change::Same,
+        2,
+    ),
+    (
+        Literal::ValueIsNot {
+            instance: 0,
+            attr: 0,
+            value: 50,
+        },
+        Change::Empty,
+        2,
+    ),
+    (
+        Literal::FreshAtLeast {
+            instance: 0,
+            port: 0,
+            from: 1,
+            count: 1,
+        },
+        Change::Smaller,
+        3,
+    ),
+    (Literal::Made { instance: 1 }, Change::Smaller, 5),
+    (
+        Literal::Linked {
+            instance: 0,
+            port: 0,
+            to: 1,
+        },
+        Change::Same,
+        5,
+    ),
+    (
+        Literal::NotLinked {
+            instance: 0,
+            port: 0,
+            to: 1,
+        },
+        Change::Empty,
+        5,
+    ),
+    (
+        Literal::NotLinked {
+            instance: 0,
+            port: 0,
+            to: 0,
+        },
+        Change::Smaller,
+        6,
+    ),
+    (
+        Literal::FreshAtMost {
+            instance: 0,
+            port: 0,
+            from: 2,
+            count: 0,
+        },
+        Change::Smaller,
+        7,
+    ),
+    (
+        Literal::NotKind {
+            instance: 1,
+            kind: 4,
+        },
+        Change::Smaller,
+        8,
+    ),
+    (
+        Literal::Kind {
+            instance: 1,
+            kind: 2,
+        },
+        Change::Same,
+        8,
+    ),
+    (
+        Literal::AtMost {
+            instance: 1,
+            attr: 0,
+            value: 10,
+        },
+        Change::Smaller,
+        9,
+    ),
+    (
+        Literal::AtLeast {
+            instance: 1,
+            attr: 0,
+            value: 10,
+        },
+        Change::Smaller,
+        10,
+    ),
+    (
+        Literal::AtLeast {
+            instance: 1,
+            attr: 1,
+            value: 5,
+        },
+        Change::Smaller,
+        11,
+    ),
+    (
+        Literal::AtMost {
+            instance: 1,
+            attr: 1,
+            value: 5,
+        },
+        Change::Smaller,
+        12,
+    ),
+];
+
+/// Changes the state by a literal, if it fits.
+fn take(
+    problem: &Problem,
+    p: &mut Partial,
+    literal: &Literal,
+    log: &mut ChangeLog,
+) -> Result<Change, Fail>
+    requires { IsState problem.now p.old }
+    ensures { IsState problem.now p.new }
+{
+    if !p.fits(problem, literal) {
+        return Err(Fail::from("it does not fit"));
+    }
+    Ok(p.change(problem, literal, log)?)
+}
+
+fn take_all(
+    rt: &impl Abort,
+    problem: &Problem,
+    p: &mut Partial,
+    log: &mut ChangeLog,
+) -> Result<(), Fail>
+    requires { IsState problem.now p.old }
+    ensures { IsState problem.now p.new }
+{
+    for (literal, want, logged) in &STEPS {
+        assert_eq!(rt; take(problem, p, literal, log)?, *want, "{literal:?}");
+        assert_eq!(rt; log.len(), *logged, "{literal:?}");
+    }
+    Ok(())
+}
+
+/// The only configuration that is left.
+fn check_left(rt: &impl Abort, alloc: Global, problem: &Problem, p: &Partial) -> Result<(), Fail>
+    requires { IsState problem.now p.now }
+{
+    if !p.is_whole() {
+        return Err(Fail::from("it is not whole"));
+    }
+    let c = p.to_configuration(problem)?;
+    let text = write_answer(alloc, problem, &c)?;
+    assert_eq!(rt;
+        text.as_slice(),
+        b"preferred\n0 Rack price=50 cards:1\n1 Small price=10 power=5\n"
+    );
+    Ok(())
+}
+
+#[test]
+fn is_narrowed_to_one_configuration(rt: HostRuntime) -> Result<(), Fail> {
+    let alloc = rt.alloc();
+    let problem = problem_of(alloc, RACKS)?;
+    let mut p = Partial::root(alloc, &problem)?;
+    let mut log = ChangeLog::new(alloc);
+    take_all(&rt, &problem, &mut p, &mut log)?;
+    check_left(&rt, alloc, &problem, &p)
+}
+
+/// Changes the state by a literal that fits, and goes back.
+fn take_and_go_back(
+    problem: &Problem,
+    p: &mut Partial,
+    literal: &Literal,
+    log: &mut ChangeLog,
+) -> Result<u32, Fail>
+    requires { IsState problem.now p.old }
+    ensures { p.new ≡ p.old }
+{
+    let len = log.len();
+    if !p.fits(problem, literal) {
+        return Err(Fail::from("it does not fit"));
+    }
+    p.change(problem, literal, log)?;
+    let made = p.made();
+    p.undo(log, len);
+    Ok(made)
+}
+
+/// A literal, and how many instances are made while it is taken.
+type Back = (Literal, u32);
+
+/// Each is taken from the state that one card is owed, which stands again afterwards.
+const BACK: [Back; 5] = [
+    (
+        Literal::AtLeast {
+            instance: 0,
+            attr: 0,
+            value: 50,
+        },
+        1,
+    ),
+    (
+        Literal::ValueIsNot {
+            instance: 0,
+            attr: 0,
+            value: 50,
+        },
+        1,
+    ),
+    (Literal::Made { instance: 1 }, 2),
+    (
+        Literal::FreshAtMost {
+            instance: 0,
+            port: 0,
+            from: 1,
+            count: 1,
+        },
+        1,
+    ),
+    (Literal::Made { instance: 1 }, 2),
+];
+
+fn check_back(
+    rt: &impl Abort,
+    problem: &Problem,
+    p: &mut Partial,
+    log: &mut ChangeLog,
+) -> Result<(), Fail>
+    requires { IsState problem.now p.old }
+{
+    for (literal, want) in &BACK {
+        assert_eq!(rt;
+            take_and_go_back(problem, p, literal, log)?,
+            *want,
+            "{literal:?}"
+        );
+        assert_eq!(rt; p.made(), 1, "{literal:?}");
+        assert_eq!(rt; log.len(), 1, "{literal:?}");
+    }
+    Ok(())
+}
+
+#[test]
+fn goes_back(rt: HostRuntime) -> Result<(), Fail> {
+    let alloc = rt.alloc();
+    let problem = problem_of(alloc, RACKS)?;
+    let mut p = Partial::root(alloc, &problem)?;
+    let mut log = ChangeLog::new(alloc);
+    let owed = Literal::FreshAtLeast {
+        instance: 0,
+        port: 0,
+        from: 1,
+        count: 1,
+    };
+    take(&problem, &mut p, &owed, &mut log)?;
+    check_back(&rt, &problem, &mut p, &mut log)
+}
+
+#[test]
+fn goes_back_over_all(rt: HostRuntime) -> Result<(), Fail> {
+    let alloc = rt.alloc();
+    let problem = problem_of(alloc, RACKS)?;
+    let mut p = Partial::root(alloc, &problem)?;
+    let mut log = ChangeLog::new(alloc);
+    take_all(&rt, &problem, &mut p, &mut log)?;
+    assert_eq!(rt; p.made(), 2);
+    p.undo(&mut log, 0);
+    assert_eq!(rt; p.made(), 1);
+    assert_eq!(rt; log.len(), 0);
+    Ok(())
+}
