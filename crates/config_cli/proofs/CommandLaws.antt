@@ -1,62 +1,70 @@
--- When the words are an accepted form, and which files they ask for.
-use Rattle.std.proofs.Common.{◌≡◌, ◌≢◌, ℕ, List, [], ◌∷◌, refl, sym, ap, subst, Bool, true, false, Some, None, inl, inr, ◌⊎◌, lit<}
-use Rattle.std.specs.Prelude.{codes, if◌then◌else◌, unwrap_or}
-use Rattle.std.specs.declared.option.Option.{Option}
-use lib.Pointwise.{bytes_decides}
-use Rattle.prod_model.specs.Names.{same_text}
+-- Which files a command reads, and what they result in.
+use Rattle.std.proofs.Common.{◌≡◌, ◌≢◌, ℕ, List, [], ◌∷◌, refl, sym, Some, inl, inr, ◌⊎◌, lit<}
+use Rattle.std.specs.Prelude.{Contains}
 use Rattle.cfg_io.specs.Causes.{Rose}
-use Rattle.config_cli.specs.Commands.{Configure, Asks, configure, AsksNothing, IsAskedFile}
-use Rattle.config_cli.specs.steps.Words.{configure_names}
+use Rattle.config_cli.specs.Commands.{Command, Configure, Check, Asks, files_of, IsAskedFile, AsksForNoFile}
+use Rattle.config_cli.specs.Results.{IsResult, configured, checked}
 use Rattle.config_cli.specs.Runs.{HasReadFault}
+use Rattle.config_cli.specs.steps.Calls.{HasFaultAmong, IsOfCommand, status_of}
+use Rattle.config_cli.specs.steps.Words.{command_in}
+use Rattle.config_cli.specs.declared.run.fetch.Stop.{Stop}
+use Rattle.config_cli.specs.declared.run.fetch.Stop.TheVariants.{Failed, Memory}
+use Rattle.config_cli.specs.declared.status.Status.{Status}
+use Rattle.config_cli.specs.declared.status.Status.TheVariants.{ReadFailed}
+use Rattle.config_cli.proofs.WordLaws.{asks_for}
 
-abbrev names_in : Option (List ℕ × List ℕ) → List ℕ × List ℕ
-names_in o = unwrap_or o ([], [])
+-- ---- the files
 
-abbrev when_form : Bool → List ℕ × List ℕ → Option (List ℕ × List ℕ)
-when_form is names = if is then Some names else None
+-- a file of the command is asked for
+pub is_asked : (words : List (List ℕ)) (c : Command) (name : List ℕ) → command_in words ≡ Some c → Contains (files_of c) name → IsAskedFile words name
+is_asked words c name e among = record { command = c; asked = asks_for words c e; named = among }
 
--- the words are that form with these names
-asked_by : (command m o : List ℕ) (is : Bool) → same_text command (codes "configure") ≡ is
-    → (model order : List ℕ) → when_form is (m, o) ≡ Some (model, order) → Asks (command ∷ m ∷ o ∷ []) (Configure model order)
-asked_by command m o true same model order e =
-    let here : command ≡ codes "configure" = (bytes_decides command (codes "configure")).0 same in
-    let a : m ≡ model = ap (λ n. (names_in n).0) e in
-    let b : o ≡ order = ap (λ n. (names_in n).1) e in
-    configure model order cc
-asked_by command m o false same model order e = absurd cc
+-- a name that isn't asked for is none of them
+pub not_among : (words : List (List ℕ)) (c : Command) (name : List ℕ) → command_in words ≡ Some c → ¬ IsAskedFile words name → ¬ Contains (files_of c) name
+not_among words c name e other among = other (is_asked words c name e among)
 
-pub asks_to_configure : (words : List (List ℕ)) (model order : List ℕ) → configure_names words ≡ Some (model, order) → Asks words (Configure model order)
-asks_to_configure [] model order e = absurd cc
-asks_to_configure (c ∷ []) model order e = absurd cc
-asks_to_configure (c ∷ m ∷ []) model order e = absurd cc
-asks_to_configure (c ∷ m ∷ o ∷ []) model order e = asked_by c m o (same_text c (codes "configure")) refl model order e
-asks_to_configure (c ∷ m ∷ o ∷ x ∷ xs) model order e = absurd cc
+-- every command reads a file
+first_file : (c : Command) → (name : List ℕ) × Contains (files_of c) name
+first_file (Configure m o) = (m, (0, lit< tt, refl))
+first_file (Check m o a) = (m, (0, lit< tt, refl))
 
--- words of that form give the names
-names_of_asked : (words : List (List ℕ)) (model order : List ℕ) → Asks words (Configure model order) → configure_names words ≡ Some (model, order)
-names_of_asked words model order (configure m o is) = ap configure_names is
+pub asks_for_files : (words : List (List ℕ)) (c : Command) → command_in words ≡ Some c → AsksForNoFile words → ⊥
+asks_for_files words c e no_file = let first = first_file c in no_file first.0 (is_asked words c first.0 e first.1)
 
-pub asks_nothing : (words : List (List ℕ)) → configure_names words ≡ None → AsksNothing words
-asks_nothing words none (Configure model order) asked = let e = names_of_asked words model order asked in absurd cc
+-- a fault of one of them is a fault of a file that is asked for
+pub read_fault : (words : List (List ℕ)) (before now : List ℕ → ℕ) (c : Command) → command_in words ≡ Some c
+    → HasFaultAmong (files_of c) before now → HasReadFault words before now
+read_fault words before now c e fault = record { name = fault.name; asked = is_asked words c fault.name e fault.among; rose = fault.rose }
 
--- both files are asked for
-pub model_is_asked : (words : List (List ℕ)) (model order : List ℕ) → configure_names words ≡ Some (model, order) → IsAskedFile words model
-model_is_asked words model order e =
-    record { command = Configure model order; asked = asks_to_configure words model order e; named = (0, lit< tt, refl) }
+-- a run stops with that status only where a read failed
+pub failed_status : (stop : Stop) → status_of stop ≡ ReadFailed → stop ≡ Failed
+failed_status Failed e = refl
+failed_status Memory e = absurd cc
 
-pub order_is_asked : (words : List (List ℕ)) (model order : List ℕ) → configure_names words ≡ Some (model, order) → IsAskedFile words order
-order_is_asked words model order e =
-    record { command = Configure model order; asked = asks_to_configure words model order e; named = (1, lit< tt, refl) }
+-- the count of one of two or three names rose
+pub fault_of_two : (m o : List ℕ) (before now : List ℕ → ℕ) → Rose (before m) (now m) ⊎ Rose (before o) (now o) → HasFaultAmong (m ∷ o ∷ []) before now
+fault_of_two m o before now (inl rose) = record { name = m; among = (0, lit< tt, refl); rose = rose }
+fault_of_two m o before now (inr rose) = record { name = o; among = (1, lit< tt, refl); rose = rose }
 
--- a name that isn't asked for is neither of the two
-pub not_model : (words : List (List ℕ)) (model order n : List ℕ) → configure_names words ≡ Some (model, order) → ¬ IsAskedFile words n → n ≢ model
-not_model words model order n e other same = other (subst (λ (f : List ℕ). IsAskedFile words f) (sym same) (model_is_asked words model order e))
+pub fault_of_three : (m o a : List ℕ) (before now : List ℕ → ℕ)
+    → Rose (before m) (now m) ⊎ (Rose (before o) (now o) ⊎ Rose (before a) (now a)) → HasFaultAmong (m ∷ o ∷ a ∷ []) before now
+fault_of_three m o a before now (inl rose) = record { name = m; among = (0, lit< tt, refl); rose = rose }
+fault_of_three m o a before now (inr (inl rose)) = record { name = o; among = (1, lit< tt, refl); rose = rose }
+fault_of_three m o a before now (inr (inr rose)) = record { name = a; among = (2, lit< tt, refl); rose = rose }
 
-pub not_order : (words : List (List ℕ)) (model order n : List ℕ) → configure_names words ≡ Some (model, order) → ¬ IsAskedFile words n → n ≢ order
-not_order words model order n e other same = other (subst (λ (f : List ℕ). IsAskedFile words f) (sym same) (order_is_asked words model order e))
+-- a name that is none of two or three
+pub none_of_two : (m o n : List ℕ) → ¬ Contains (m ∷ o ∷ []) n → (n ≢ m) × (n ≢ o)
+none_of_two m o n other = (λ is. other (0, lit< tt, sym is), λ is. other (1, lit< tt, sym is))
 
--- a fault of one of the two is a fault of a file that is asked for
-pub read_fault : (words : List (List ℕ)) (before now : List ℕ → ℕ) (model order : List ℕ) → configure_names words ≡ Some (model, order)
-    → Rose (before model) (now model) ⊎ Rose (before order) (now order) → HasReadFault words before now
-read_fault words before now model order e (inl rose) = record { name = model; asked = model_is_asked words model order e; rose = rose }
-read_fault words before now model order e (inr rose) = record { name = order; asked = order_is_asked words model order e; rose = rose }
+pub none_of_three : (m o a n : List ℕ) → ¬ Contains (m ∷ o ∷ a ∷ []) n → (n ≢ m) × (n ≢ o) × (n ≢ a)
+none_of_three m o a n other = (λ is. other (0, lit< tt, sym is), λ is. other (1, lit< tt, sym is), λ is. other (2, lit< tt, sym is))
+
+-- ---- the result
+
+-- what the command's files result in is what the words and files result in
+pub result_of : (words : List (List ℕ)) (files : List (List ℕ × List ℕ)) (c : Command) → Asks words c → (status : Status) (text : List ℕ)
+    → IsOfCommand files c status text → IsResult words files status text
+result_of words files (Configure m o) asked status text is =
+    configured m o asked is.model_bytes is.order_bytes is.model_there is.order_there is.configured
+result_of words files (Check m o a) asked status text is =
+    checked m o a asked is.model_bytes is.order_bytes is.answer_bytes is.model_there is.order_there is.answer_there is.checked

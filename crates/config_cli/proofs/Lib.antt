@@ -8,7 +8,11 @@ pub mod OneTypeAttributes
 pub mod OneInstanceLaws
 pub mod OneInstanceRanks
 pub mod PreferredLaws
+pub mod WordLaws
 pub mod CommandLaws
+pub mod TypeNames
+pub mod CheckLaws
+pub mod CheckedLaws
 pub mod OutcomeLaws
 pub mod RunLaws
 pub mod StatusLaws

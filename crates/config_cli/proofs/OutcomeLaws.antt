@@ -21,7 +21,8 @@ use Rattle.config_value.specs.Conflict.{IsPreferredConflict, IsAntilexSmaller}
 use Rattle.config_cli.specs.Plain.{is_plain, is_plain_order, is_plain_side}
 use Rattle.config_cli.specs.steps.Fetched.{Refuses, HasKnownPlace}
 use Rattle.config_cli.specs.declared.status.Status.{Status}
-use Rattle.config_cli.specs.Results.{IsConfigured, IsModelFile, refused_model, refused_order}
+use Rattle.config_cli.specs.Files.{IsModelFile}
+use Rattle.config_cli.specs.Results.{IsConfigured, refused_model, refused_order}
 
 -- a plain order has no requests
 pub no_requests : (o : Order) → IsTrue (is_plain_order o) → o.requests ≡ []

@@ -2,6 +2,9 @@ pub mod Commands
 pub mod Plain
 pub mod Texts
 pub mod Statuses
+pub mod CheckTexts
+pub mod Files
+pub mod Checked
 pub mod Results
 pub mod Runs
 pub mod steps

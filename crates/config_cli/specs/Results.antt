@@ -2,18 +2,18 @@
 use Rattle.std.specs.Prelude.{◌≡◌, ℕ, ◌+◌, Bool, true, false, IsTrue, IsFalse, List, [], ◌∷◌, Some, codes}
 use Rattle.prod_model.specs.declared.model.Model.{Model}
 use Rattle.prod_model.specs.declared.model.Order.{Order}
-use Rattle.prod_model.specs.Valid.{IsValid, IsValidOrder}
 use Rattle.config_value.specs.declared.configuration.Instance.{Instance}
 use Rattle.config_value.specs.Satisfies.{all_kept}
 use Rattle.config_value.specs.Preferred.{IsPreferred}
 use Rattle.config_value.specs.Conflict.{IsPreferredConflict}
 use Rattle.file_values.specs.declared.fault.Fault.{Fault}
 use Rattle.file_meaning.specs.Faults.{HasModelFault, HasOrderFault, IsFaultOfFile}
-use Rattle.file_meaning.specs.Stands.{StandsForModel, StandsForOrder, IsFileFor}
 use Rattle.canonical_form.specs.AnswerText.{answer_text}
 use Rattle.canonical_form.specs.ConflictText.{conflict_text}
 use Rattle.cfg_io.specs.Shelves.{file}
-use Rattle.config_cli.specs.Commands.{Configure, Asks, AsksNothing}
+use Rattle.config_cli.specs.Checked.{IsChecked}
+use Rattle.config_cli.specs.Commands.{Configure, Check, Asks, AsksNothing}
+use Rattle.config_cli.specs.Files.{IsModelFile, IsOrderFile}
 use Rattle.config_cli.specs.Plain.{is_plain, is_plain_order}
 use Rattle.config_cli.specs.Texts.{usage_text, refused_text, unsupported_text}
 use Rattle.config_cli.specs.declared.status.Status.{Status}
@@ -33,16 +33,6 @@ pub data IsPreferredOutcome (m : Model) (o : Order) (status : Status) (text : Li
   conflict : (keep : List Bool) → IsPreferredConflict m o keep
       → status ≡ Conflict → text ≡ conflict_text o (places_kept 0 keep)
       → IsPreferredOutcome m o status text
-
--- the bytes are a model file without fault, and stand for this model
-pub record IsModelFile (bytes : List ℕ) (m : Model) : Type 0 where
-  pub stands : IsFileFor StandsForModel bytes m
-  pub valid : IsValid m
-
--- the bytes are an order file without fault for a model, and stand for this order
-pub record IsOrderFile (m : Model) (bytes : List ℕ) (o : Order) : Type 0 where
-  pub stands : IsFileFor (StandsForOrder m) bytes o
-  pub valid : IsValidOrder m o
 
 -- What the bytes of a model and an order result in: the first fault of the model; else, where the
 -- model isn't plain, that it can't be configured yet; else the same of the order; else the preferred
@@ -75,3 +65,9 @@ pub data IsResult (words : List (List ℕ)) (files : List (List ℕ × List ℕ)
       → (model_bytes order_bytes : List ℕ)
       → file model files ≡ Some model_bytes → file order files ≡ Some order_bytes
       → IsConfigured model_bytes order_bytes status text → IsResult words files status text
+  checked : (model order answer : List ℕ) → Asks words (Check model order answer)
+      → (model_bytes order_bytes answer_bytes : List ℕ)
+      → file model files ≡ Some model_bytes → file order files ≡ Some order_bytes
+      → file answer files ≡ Some answer_bytes
+      → IsChecked model_bytes order_bytes answer_bytes status text
+      → IsResult words files status text

@@ -12,9 +12,13 @@ usage_text =
     codes "usage: config_cli configure MODEL ORDER [--workers W]"
     ++ codes " | check MODEL ORDER ANSWER | demo N [--workers W]" ++ line_end
 
+-- the number of a code in two digits
+abbrev pub two_digits : ℕ → List ℕ
+two_digits code = (48 + code / 10) ∷ (48 + code % 10) ∷ []
+
 -- `F` and two digits
 abbrev pub code_text : ℕ → List ℕ
-code_text code = codes "F" ++ (48 + code / 10) ∷ (48 + code % 10) ∷ []
+code_text code = codes "F" ++ two_digits code
 
 -- a refused file, with the code and the place of its fault
 unfoldable pub refused_text : List ℕ → FaultCode → List Part → List ℕ

@@ -4,4 +4,5 @@ pub mod Walk
 pub mod Words
 pub mod Fetched
 pub mod Calls
+pub mod Checks
 pub mod Leaves

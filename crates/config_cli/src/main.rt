@@ -4,7 +4,11 @@
 
 ghost use Rattle.std.specs.Prelude.{◌≡◌, ◌⊎◌};
 
+mod check;
+mod check_texts;
 mod commands;
+mod item_names;
+mod names;
 mod outcome;
 mod plain;
 mod run;

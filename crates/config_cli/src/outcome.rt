@@ -4,7 +4,8 @@ ghost use Rattle.prod_model.specs.Valid.{IsValidOrder};
 ghost use Rattle.file_meaning.specs.Faults.{HasModelFault, HasOrderFault};
 ghost use Rattle.file_meaning.specs.Refused.{IsRefusalOfFile};
 ghost use Rattle.config_cli.specs.Plain.{is_plain, is_plain_order};
-ghost use Rattle.config_cli.specs.Results.{IsConfigured, IsModelFile, IsOrderFile, IsPreferredOutcome};
+ghost use Rattle.config_cli.specs.Files.{IsModelFile, IsOrderFile};
+ghost use Rattle.config_cli.specs.Results.{IsConfigured, IsPreferredOutcome};
 ghost use Rattle.config_cli.specs.Texts.{unsupported_text};
 ghost use Rattle.config_cli.specs.steps.Calls.{IsExactly, IsOfOutcome};
 ghost use Rattle.config_cli.specs.steps.Fetched.{ForFile, HasKnownPlace, IsFetchOf, Refuses};
@@ -23,7 +24,7 @@ use std::alloc::{AllocError, Global};
 #[derive(Drop)]
 pub enum Fetched {
     Bytes(Vec<u8>),
-    /// It has more bytes than a file may have.
+    /// It has more bytes than such a file may have.
     TooLong,
 }
 
@@ -34,7 +35,8 @@ pub struct Outcome {
     pub text: Vec<u8>,
 }
 
-fn open_model(alloc: Global, file: Fetched) -> Result<Problem, Refusal>
+/// The problem of a model's file.
+pub fn open_model(alloc: Global, file: Fetched) -> Result<Problem, Refusal>
     ensures model { IfOk result (λ p. ForFile (λ bytes. IsModelFile bytes p) file) }
     ensures fault { IfErr result
         (λ e. ForFile (λ bytes. IsRefusalOfFile HasModelFault bytes e) file) }
@@ -46,7 +48,8 @@ fn open_model(alloc: Global, file: Fetched) -> Result<Problem, Refusal>
     }
 }
 
-fn open_order(alloc: Global, problem: &Problem, file: Fetched) -> Result<Order, Refusal>
+/// The order of an order's file, for a problem.
+pub fn open_order(alloc: Global, problem: &Problem, file: Fetched) -> Result<Order, Refusal>
     ensures valid { IfOk result (λ o. IsValidOrder problem.now o) }
     ensures order { IfOk result (λ o. ForFile (λ bytes. IsOrderFile problem.now bytes o) file) }
     ensures fault { IfErr result
@@ -59,8 +62,8 @@ fn open_order(alloc: Global, problem: &Problem, file: Fetched) -> Result<Order, 
     }
 }
 
-// The line of a refused file, if there is memory.
-fn refused(alloc: Global, file: &str, refusal: Refusal) -> Result<Outcome, AllocError>
+/// The line of a refused model or order, if there is memory.
+pub fn refused(alloc: Global, file: &str, refusal: Refusal) -> Result<Outcome, AllocError>
     requires known { HasKnownPlace refusal }
     ensures line { IfOk result (λ a. Refuses file.now refusal a.status a.text.items) }
     ensures status { IfOk result (λ a. IsOfOutcome a.status) }

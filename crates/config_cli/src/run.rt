@@ -1,5 +1,5 @@
 // The run of a command: its files are read, and the text of what they result in is written.
-ghost use Rattle.std.specs.Prelude.{◌<◌, ◌≡◌, ◌≢◌, ◌⊎◌, ℕ, ◌≤◌, List, [], IfOk};
+ghost use Rattle.std.specs.Prelude.{◌<◌, ◌≡◌, ◌≢◌, ◌⊎◌, ℕ, ◌≤◌, List, []};
 ghost use Rattle.std.specs.Option.{ForSome};
 ghost use Rattle.cfg_io.specs.Causes.{Rose};
 ghost use Rattle.config_cli.specs.Commands.{AsksForNoFile, AsksNothing, IsAskedFile};
@@ -7,56 +7,19 @@ ghost use Rattle.config_cli.specs.Results.{IsResult};
 ghost use Rattle.config_cli.specs.Runs.{HasReadFault, Writes, texts};
 ghost use Rattle.config_cli.specs.Statuses.{number_of};
 ghost use Rattle.config_cli.specs.steps.Leaves.{LeavesAs};
-ghost use Rattle.config_cli.specs.steps.Calls.{IsExactly, IsOfFiles, status_of};
-ghost use Rattle.config_cli.specs.steps.Fetched.{IsFetchAt};
+ghost use Rattle.config_cli.specs.steps.Calls.{IsExactly};
 
-use crate::commands::configure_names;
-use crate::outcome::{Fetched, configured};
+mod fetch;
+mod files;
+
+use crate::commands::command_in;
 use crate::status::Status;
-use cfg_io::{ReadError, Shelf, Sink, WriteError};
-use prod_model::limits::MOST_FILE_BYTES;
+use cfg_io::{Shelf, Sink, WriteError};
+use files::outcome_of;
 use std::alloc::Global;
 
 const USAGE: &str = "usage: config_cli configure MODEL ORDER [--workers W] \
     | check MODEL ORDER ANSWER | demo N [--workers W]\n";
-
-/// Why a file was not read.
-#[derive(Drop)]
-enum Stop {
-    Failed,
-    Memory,
-}
-
-impl Stop {
-    fn status(self) -> Status
-        ensures { result ≡ status_of self }
-    {
-        match self {
-            Stop::Failed => Status::ReadFailed,
-            Stop::Memory => Status::OutOfMemory,
-        }
-    }
-}
-
-// Reads a file, as far as a file may go.
-fn fetch<S: Shelf>(shelf: &mut S, name: &str) -> Result<Fetched, Stop>
-    ensures same { S.files shelf.new ≡ S.files shelf.old }
-    ensures fetched { IfOk result (λ found.
-        ForSome (S.files shelf.old) (λ fs. IsFetchAt fs name.now found)) }
-    ensures failed { result ≡ Err Stop.Failed
-        → Rose (S.faults shelf.old name.now) (S.faults shelf.new name.now) }
-    ensures uncounted { result ≢ Err Stop.Failed
-        → (n : List ℕ) → S.faults shelf.new n ≡ S.faults shelf.old n }
-    ensures later { (n : List ℕ) → S.faults shelf.old n ≤ S.faults shelf.new n }
-    ensures others { (n : List ℕ) → n ≢ name.now → S.faults shelf.new n ≡ S.faults shelf.old n }
-{
-    match shelf.read(name, MOST_FILE_BYTES) {
-        Ok(bytes) => Ok(Fetched::Bytes(bytes)),
-        Err(ReadError::TooLong) => Ok(Fetched::TooLong),
-        Err(ReadError::Failed) => Err(Stop::Failed),
-        Err(ReadError::Memory(_)) => Err(Stop::Memory),
-    }
-}
 
 // Writes the text, and gives its status or that of the write's failure.
 fn say<K: Sink>(out: &mut K, status: Status, text: &[u8]) -> Status
@@ -75,52 +38,6 @@ fn say<K: Sink>(out: &mut K, status: Status, text: &[u8]) -> Status
         Ok(()) => status,
         Err(WriteError::Failed) => Status::WriteFailed,
         Err(WriteError::Memory(_)) => Status::OutOfMemory,
-    }
-}
-
-// Configures by the files of these names.
-fn configure<S: Shelf, K: Sink>(
-    alloc: Global,
-    model: &str,
-    order: &str,
-    shelf: &mut S,
-    out: &mut K,
-) -> Status
-    // What is written, and the status.
-    ensures written { ForSome (S.files shelf.old) (λ fs.
-        LeavesAs (IsOfFiles fs model.now order.now) (K.written out.old) (K.written out.new)
-        result) }
-    ensures read { result ≡ Status.ReadFailed
-        → (Rose (S.faults shelf.old model.now) (S.faults shelf.new model.now))
-        ⊎ (Rose (S.faults shelf.old order.now) (S.faults shelf.new order.now)) }
-    ensures write { result ≡ Status.WriteFailed → Rose (K.faults out.old) (K.faults out.new) }
-    ensures nothing { (result ≡ Status.ReadFailed) ⊎ (result ≡ Status.OutOfMemory)
-        → K.written out.new ≡ K.written out.old }
-    ensures accepted { result ≢ Status.Usage }
-    ensures answers { result ≢ Status.NoWords }
-
-    // What stays.
-    ensures files { S.files shelf.new ≡ S.files shelf.old }
-    ensures others { (n : List ℕ) → n ≢ model.now → n ≢ order.now
-        → S.faults shelf.new n ≡ S.faults shelf.old n }
-    ensures reads_uncounted { result ≢ Status.ReadFailed
-        → (n : List ℕ) → S.faults shelf.new n ≡ S.faults shelf.old n }
-    ensures writes_uncounted { result ≢ Status.WriteFailed
-        → K.faults out.new ≡ K.faults out.old }
-    ensures later { (n : List ℕ) → S.faults shelf.old n ≤ S.faults shelf.new n }
-    ensures sink_later { K.faults out.old ≤ K.faults out.new }
-{
-    let model_file = match fetch(shelf, model) {
-        Ok(found) => found,
-        Err(stop) => return stop.status(),
-    };
-    let order_file = match fetch(shelf, order) {
-        Ok(found) => found,
-        Err(stop) => return stop.status(),
-    };
-    match configured(alloc, model_file, order_file) {
-        Ok(outcome) => say(out, outcome.status, &outcome.text),
-        Err(_) => Status::OutOfMemory,
     }
 }
 
@@ -158,9 +75,12 @@ fn run_words<S: Shelf, K: Sink>(
     ensures later { (n : List ℕ) → S.faults shelf.old n ≤ S.faults shelf.new n }
     ensures sink_later { K.faults out.old ≤ K.faults out.new }
 {
-    match configure_names(words) {
-        Some((model, order)) => configure(alloc, model, order, shelf, out),
-        None => say(out, Status::Usage, USAGE.as_bytes()),
+    let Some(command) = command_in(words) else {
+        return say(out, Status::Usage, USAGE.as_bytes());
+    };
+    match outcome_of(alloc, command, shelf) {
+        Ok(outcome) => say(out, outcome.status, &outcome.text),
+        Err(stop) => stop.status(),
     }
 }
 
@@ -173,6 +93,16 @@ fn run_words<S: Shelf, K: Sink>(
 /// - `Conflict` and the preferred conflict, where they can't;
 /// - `Refused` and `refused FILE CODE PLACE`, where a file has a fault, or has none and can't be
 ///   configured yet: the model's comes before the order's.
+///
+/// `--workers W` behind it, with W from 1 to 64, changes nothing of this.
+///
+/// `check MODEL ORDER ANSWER` reads the three files in this order, and writes in the same way:
+///
+/// - `Satisfied` and the values of the criteria, where the answer's configuration satisfies the model
+///   and meets all requests;
+/// - `Broken` and the first test that it breaks, or else the first request that it doesn't meet;
+/// - `Refused` and the first fault, the model's before the order's and this before the answer's.
+///   Any model and order without fault are taken.
 ///
 /// `Usage` and the usage line: the words are none of the accepted forms. `ReadFailed`: a read
 /// failed, and nothing is written. `WriteFailed`: the write failed, and a part of the text may be
@@ -216,6 +146,12 @@ pub fn run_alone<S: Shelf, K: Sink>(
     run_words(alloc, words, shelf, out).number()
 }
 
+#[cfg(test)]
+mod check_files;
+#[cfg(test)]
+mod check_rows;
+#[cfg(test)]
+mod checks;
 #[cfg(test)]
 mod refusals;
 #[cfg(test)]

@@ -9,6 +9,10 @@ pub enum Status {
     Preferred,
     /// No configuration meets all requests.
     Conflict,
+    /// The checked answer satisfies the model and meets all requests.
+    Satisfied,
+    /// The checked answer breaks a test of the model, or doesn't meet a request.
+    Broken,
     /// The words are none of the accepted forms.
     Usage,
     /// A file has a fault.
@@ -31,6 +35,8 @@ impl Status {
         match self {
             Status::Preferred => 0,
             Status::Conflict => 1,
+            Status::Satisfied => 0,
+            Status::Broken => 1,
             Status::Usage => 2,
             Status::Refused => 3,
             Status::ReadFailed => 4,

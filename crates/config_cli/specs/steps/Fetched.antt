@@ -1,7 +1,7 @@
 -- What a read that stops at the limit shows of a file.
-use Rattle.std.specs.Prelude.{◌≡◌, ℕ, ◌<◌, IsTrue, List, length, Some}
+use Rattle.std.specs.Prelude.{◌≡◌, ℕ, ◌<◌, ◌≤◌, IsTrue, List, length, Some}
 use Rattle.cfg_io.specs.Shelves.{file}
-use Rattle.prod_model.specs.Limits.{most_file_bytes}
+use Rattle.prod_model.specs.Limits.{most_answer_bytes, most_file_bytes}
 use Rattle.file_values.specs.Places.{has_known_keys}
 use Rattle.file_meaning.specs.declared.refusal.Refusal.{Refusal}
 use Rattle.file_meaning.specs.declared.refusal.Refusal.TheVariants.{Fault, Memory}
@@ -11,15 +11,28 @@ use Rattle.config_cli.specs.declared.outcome.Fetched.TheVariants.{Bytes, TooLong
 use Rattle.config_cli.specs.declared.status.Status.{Status}
 use Rattle.config_cli.specs.declared.status.Status.TheVariants.{Refused}
 
--- the bytes that were read are the file's; or it has more than a file may have
+-- the bytes that were read are the file's; or it has more than the limit
+abbrev pub IsFetchWithin : ℕ → List ℕ → Fetched → Type 0
+IsFetchWithin limit file (Bytes v) = v.items ≡ file
+IsFetchWithin limit file TooLong = limit < length file
+
+-- this was read of a model or an order with these bytes
 abbrev pub IsFetchOf : List ℕ → Fetched → Type 0
-IsFetchOf file (Bytes v) = v.items ≡ file
-IsFetchOf file TooLong = most_file_bytes < length file
+IsFetchOf = IsFetchWithin most_file_bytes
+
+-- this was read of an answer with these bytes
+abbrev pub IsAnswerFetchOf : List ℕ → Fetched → Type 0
+IsAnswerFetchOf = IsFetchWithin most_answer_bytes
+
+-- what was read is no longer than the limit
+abbrev pub IsShort : ℕ → Fetched → Type 0
+IsShort limit (Bytes v) = length v.items ≤ limit
+IsShort limit TooLong = Unit {0}
 
 -- what was read is of the file of that name
-abbrev pub IsFetchAt : List (List ℕ × List ℕ) → List ℕ → Fetched → Type 0
-IsFetchAt files name fetched =
-    (bytes : List ℕ) × (file name files ≡ Some bytes) × IsFetchOf bytes fetched
+abbrev pub IsFetchAt : ℕ → List (List ℕ × List ℕ) → List ℕ → Fetched → Type 0
+IsFetchAt limit files name fetched =
+    (bytes : List ℕ) × (file name files ≡ Some bytes) × IsFetchWithin limit bytes fetched
 
 -- it is so of each file that this may have been read of
 abbrev pub ForFile : (List ℕ → Type 0) → Fetched → Type 0

@@ -254,19 +254,61 @@ const USED_WRONGLY: Row = Row {
     written: USAGE,
 };
 
-const OTHER_WORDS: [&str; 6] = [
+const OTHER_WORDS: [&str; 18] = [
     "",
     "configure",
     "configure model",
     "build model order",
     "configure model order order",
+    "configure model order --workers",
+    "configure model order --workers 0",
     "configure model order --workers 04",
+    "configure model order --workers +4",
+    "configure model order --workers 65",
+    "configure model order --workers four",
+    "configure model order --workers=4",
+    "configure --workers 4 model order",
+    "configure model order --workers 4 --workers 4",
+    "configure model order --worker 4",
+    "check model order",
+    "check model order answer more",
+    "check model order answer --workers 4",
 ];
 
 #[test]
 fn takes_no_other_words(rt: HostRuntime) -> Result<(), Fail> {
     for line in &OTHER_WORDS {
         check_row(&rt, rt.alloc(), line, &USED_WRONGLY)?;
+    }
+    Ok(())
+}
+
+#[test]
+fn takes_no_empty_number(rt: HostRuntime) -> Result<(), Fail> {
+    let alloc = rt.alloc();
+    let mut words = words_of(alloc, "configure model order --workers")?;
+    words.push(String::new(alloc))?;
+    let mut shelf = shelf_of(alloc, &USED_WRONGLY)?;
+    let mut out = MemorySink::new(alloc, Vec::new(alloc));
+    let status = run_alone(alloc, &words, &mut shelf, &mut out);
+    assert_eq!(rt; status, Status::Usage.number());
+    assert_eq!(rt; out.written(), USAGE.as_bytes());
+    Ok(())
+}
+
+const WITH_WORKERS: [&str; 4] = [
+    "configure model order --workers 1",
+    "configure model order --workers 9",
+    "configure model order --workers 10",
+    "configure model order --workers 64",
+];
+
+#[test]
+fn workers_change_nothing(rt: HostRuntime) -> Result<(), Fail> {
+    for line in &WITH_WORKERS {
+        for row in &ROWS {
+            check_row(&rt, rt.alloc(), line, row)?;
+        }
     }
     Ok(())
 }

@@ -1,6 +1,6 @@
 use Rattle.std.proofs.Common.{ap}
 use Rattle.std.specs.Prelude.{Err}
-use Rattle.config_cli.proofs.run.fetch.Goals as goal
+use Rattle.config_cli.proofs.run.fetch.fetch.Goals as goal
 
 pub returns-in-Err-TooLong-clause-fetched : goal.returns-in-Err-TooLong-clause-fetched
 returns-in-Err-TooLong-clause-fetched g c = λ fs told.
