@@ -168,6 +168,9 @@ const STEPS: [Step; 17] = [
     ),
 ];
 
+/// The answer that is left.
+const LEFT: &str = "preferred\n0 Rack price=50 cards:1\n1 Small price=10 power=5\n";
+
 /// Changes the state by a literal, if it fits.
 fn take(
     problem: &Problem,
@@ -209,10 +212,7 @@ fn check_left(rt: &impl Abort, alloc: Global, problem: &Problem, p: &Partial) ->
     }
     let c = p.to_configuration(problem)?;
     let text = write_answer(alloc, problem, &c)?;
-    assert_eq!(rt;
-        text.as_slice(),
-        b"preferred\n0 Rack price=50 cards:1\n1 Small price=10 power=5\n"
-    );
+    assert_eq!(rt; text.as_slice(), LEFT.as_bytes());
     Ok(())
 }
 
