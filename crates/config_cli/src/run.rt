@@ -153,6 +153,8 @@ mod check_rows;
 #[cfg(test)]
 mod checks;
 #[cfg(test)]
+mod examples;
+#[cfg(test)]
 mod refusals;
 #[cfg(test)]
 mod refused_files;

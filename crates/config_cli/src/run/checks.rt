@@ -47,7 +47,7 @@ fn results_in(
 }
 
 /// Each of the rows ends with the status and its text.
-fn check_told(
+pub(super) fn check_told(
     rt: &impl Abort,
     alloc: Global,
     rows: &[Told],
