@@ -172,7 +172,7 @@ const STEPS: [Step; 17] = [
 const LEFT: &str = "preferred\n0 Rack price=50 cards:1\n1 Small price=10 power=5\n";
 
 /// Changes the state by a literal, if it fits.
-fn take(
+pub(crate) fn take(
     problem: &Problem,
     p: &mut Partial,
     literal: &Literal,

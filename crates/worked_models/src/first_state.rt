@@ -13,7 +13,7 @@ use std::test::Fail;
 // and power 1, and the port is cards 0.
 
 /// A literal, and whether the first state entails it.
-type Entailed = (Literal, bool);
+pub(crate) type Entailed = (Literal, bool);
 
 /// One rack is made. Of its price, from 0 to 100, and of its cards, itself or up to four later ones,
 /// nothing is known.
@@ -305,7 +305,7 @@ const FITTING: [Entailed; 11] = [
     ),
 ];
 
-fn check_entailed(rt: &impl Abort, problem: &Problem, p: &Partial, rows: &[Entailed])
+pub(crate) fn check_entailed(rt: &impl Abort, problem: &Problem, p: &Partial, rows: &[Entailed])
     requires { IsState problem.now p.now }
 {
     for (literal, want) in rows {

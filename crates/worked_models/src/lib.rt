@@ -9,6 +9,8 @@ mod expressions;
 #[cfg(test)]
 mod first_state;
 #[cfg(test)]
+mod generations;
+#[cfg(test)]
 mod largest;
 #[cfg(test)]
 mod literals;

@@ -77,7 +77,7 @@ fn is_excluded(
     if order.requests.len() != 1 {
         return Err(Fail::from("not one request"));
     }
-    let nogood = nogood_of(alloc, row.1, row.2)?;
+    let nogood = nogood_of(alloc, row.1, row.2)?.copy(alloc)?;
     let met = met_of(problem, &order, c);
     Ok(excludes(problem, &order, &nogood, met, c))
 }
