@@ -31,25 +31,30 @@ pub(crate) const ONE_CARD: &str =
 /// A rack of two cards, each of which uses one driver.
 pub(crate) const SHARED_DRIVERS: &str =
     r#"{"format": "product-model 1", "root": "Rack", "instances": 5, "types": [
-    {"name": "Rack", "ports": [{"name": "cards", "kind": "part", "target": "Card", "links": [2, 2]}]},
-    {"name": "Card", "ports": [{"name": "driver", "kind": "use", "target": "Driver", "links": [1, 1]}]},
+    {"name": "Rack", "ports": [
+        {"name": "cards", "kind": "part", "target": "Card", "links": [2, 2]}]},
+    {"name": "Card", "ports": [
+        {"name": "driver", "kind": "use", "target": "Driver", "links": [1, 1]}]},
     {"name": "Driver"}]}"#;
 
 /// Nodes, each of which has one node as its part.
 pub(crate) const NODE_PARTS: &str =
     r#"{"format": "product-model 1", "root": "Node", "instances": 3, "types": [
-    {"name": "Node", "ports": [{"name": "next", "kind": "part", "target": "Node", "links": [1, 1]}]}]}"#;
+    {"name": "Node", "ports": [
+        {"name": "next", "kind": "part", "target": "Node", "links": [1, 1]}]}]}"#;
 
 /// Nodes, each of which uses one node.
 pub(crate) const NODE_USES: &str =
     r#"{"format": "product-model 1", "root": "Node", "instances": 3, "types": [
-    {"name": "Node", "ports": [{"name": "next", "kind": "use", "target": "Node", "links": [1, 1]}]}]}"#;
+    {"name": "Node", "ports": [
+        {"name": "next", "kind": "use", "target": "Node", "links": [1, 1]}]}]}"#;
 
 /// A rack of up to two cards, with two rules for cards: a power of at least 5, and then one of at
 /// most 7.
 pub(crate) const RULED_CARDS: &str =
     r#"{"format": "product-model 1", "root": "Rack", "instances": 3, "types": [
-    {"name": "Rack", "ports": [{"name": "cards", "kind": "part", "target": "Card", "links": [0, 2]}]},
+    {"name": "Rack", "ports": [
+        {"name": "cards", "kind": "part", "target": "Card", "links": [0, 2]}]},
     {"name": "Card", "attributes": [{"name": "power", "range": [1, 9]}]}],
     "rules": [
         {"name": "strong", "type": "Card", "holds": [">=", ["attr", "power"], 5]},
@@ -100,10 +105,12 @@ pub(crate) const HOMES: &str =
     {"name": "Rack", "ports": [
         {"name": "cards", "kind": "part", "target": "Card", "links": [0, 2], "inverse": "home"}]},
     {"name": "Card", "ports": [
-        {"name": "home", "kind": "use", "target": "Rack", "links": [1, 1], "inverse": "cards"}]}]}"#;
+        {"name": "home", "kind": "use", "target": "Rack",
+            "links": [1, 1], "inverse": "cards"}]}]}"#;
 
 /// Nodes that link each other by a port that is its own inverse.
 pub(crate) const PEERS: &str =
     r#"{"format": "product-model 2", "root": "Node", "instances": 3, "types": [
     {"name": "Node", "ports": [
-        {"name": "peers", "kind": "use", "target": "Node", "links": [0, 3], "inverse": "peers"}]}]}"#;
+        {"name": "peers", "kind": "use", "target": "Node",
+            "links": [0, 3], "inverse": "peers"}]}]}"#;
