@@ -5,7 +5,7 @@ ghost use Rattle.config_value.specs.declared.literal.Literal.TheVariants.{Made a
 /// What may hold of one instance of a configuration. Instances are numbered from 0, types are their
 /// numbers in the model, and attributes and ports are ids. A literal holds only where there is that
 /// instance, and its type has the attribute or port that is named.
-#[derive(Clone, Copy, Debug, PartialEq, Eq)]
+#[derive(Clone, Copy, Debug, PartialEq, Eq, Hash)]
 pub enum Literal {
     /// There is an instance of that number.
     Made {
