@@ -1,3 +1,4 @@
+pub mod Gaps
 pub mod Intervals
 pub mod Narrowing
 pub mod Words

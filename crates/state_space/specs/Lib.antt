@@ -13,3 +13,6 @@ pub mod Changes
 pub mod Undo
 pub mod Declared
 pub mod Laws
+pub mod Unshared
+pub mod Descriptions
+pub mod Described
