@@ -42,8 +42,12 @@ abbrev pub IsPartition : Model → List Piece → Type 0
 IsPartition m ps =
     (c : List Instance) → IsTrue (satisfies m c) → count_by (λ p. in_piece m p c) ps ≡ 1
 
+-- Each request of the mask is kept: `keep` tells of the request at each place.
+abbrev pub AreKept : List Bool → ℕ → Type 0
+AreKept keep mask = (k : ℕ) → IsTrue (asks_for mask k) → IsAt keep k true
+
 -- Each literal of the nogood is among the given ones, and each of its requests is kept. So it is
 -- not where the nogood has a request that the order lacks.
 pub record IsWithin (n : Nogood) (ls : List Literal) (keep : List Bool) : Type 0 where
   pub literals : (k : ℕ) (l : Literal) → IsAt n.literals k l → (j : ℕ) × IsAt ls j l
-  pub requests : (k : ℕ) → IsTrue (asks_for n.requests k) → IsAt keep k true
+  pub requests : AreKept keep n.requests

@@ -5,7 +5,7 @@ ghost use Rattle.base_laws.specs.Places.{IsAt};
 ghost use Rattle.prod_model.specs.declared.model.Request.{Request};
 ghost use Rattle.config_value.specs.declared.literal.Literal.{Literal};
 ghost use Rattle.config_value.specs.Satisfies.{meets};
-ghost use Rattle.literal_book.specs.Nogoods.{excludes as excludes_of, asks_for as asks_for_of, has_literals, IsWithin};
+ghost use Rattle.literal_book.specs.Nogoods.{excludes as excludes_of, asks_for as asks_for_of, has_literals, AreKept, IsWithin};
 
 use crate::holding::holds_in;
 use crate::nogood::Nogood;
@@ -76,10 +76,10 @@ fn is_same(k: &Literal, l: &Literal) -> bool
     *k == *l
 }
 
-/// Whether each request of the mask is kept. A mask asks for none from 64 on.
-fn are_kept(requests: u64, keep: &[bool]) -> bool
-    ensures { IsTrue result
-        ↔ ((k : ℕ) → IsTrue (asks_for_of requests k) → IsAt keep.now k true) }
+/// Whether each request of the mask is kept: `keep` tells of the request at each place, and a
+/// request at no place is not kept. It takes no memory.
+pub fn are_kept(requests: u64, keep: &[bool]) -> bool
+    ensures { IsTrue result ↔ AreKept keep.now requests }
 {
     first_are_kept(requests, keep, 64)
 }

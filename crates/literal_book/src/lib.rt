@@ -11,7 +11,7 @@ mod nogood;
 
 pub use added::Added;
 pub use config_value::Literal;
-pub use excluding::{excludes, within};
+pub use excluding::{are_kept, excludes, within};
 pub use holding::holds_in;
 pub use literals::Literals;
 pub use nogood::{Nogood, Piece};
