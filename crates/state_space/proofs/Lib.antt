@@ -25,5 +25,7 @@ pub mod NewState
 pub mod GenerationState
 pub mod WholeCovered
 pub mod UndoneGeneration
+pub mod DescriptionLists
+pub mod DescriptionLaws
 mod StateExamples
 mod SharedExamples

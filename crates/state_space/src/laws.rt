@@ -1,6 +1,7 @@
 //! The laws of partial states, each as a function that a layer above can call.
 ghost use Rattle.state_space.specs.Covers.{CoversSentences};
 ghost use Rattle.state_space.specs.Declared.{ValidHasIds, ValidHasWholeDomains, ValidHasFew};
+ghost use Rattle.state_space.specs.Described.{DescriptionIsEntailed};
 ghost use Rattle.state_space.specs.Laws.{RootIsState, RootCovers, KindsNarrowed, DomainNarrowed, PortNarrowed, ChangeIsExact, EmptyCoversNone, ChangeEntails, EachKeepsState, NarrowingKeepsState, GenerationKeepsState, GenerationKeeps, OwedIsLinked, EntailedHolds, ChangeKeeps, FittingIsEntailed, FittingKeepsState, OppositeHolds, WholeCoversOnlyOne, WholeCoversNoMore, WholeCoversItsOwn, WholeCoversOne, SizeIsPositive, EachIsLess, SmallerIsLess, GenerationIsLess, FittingIsLess, UndoneInTurn, EachIsUndone, GenerationIsUndone};
 
 /// A configuration is covered exactly where the sentences of covering hold.
@@ -176,4 +177,9 @@ pub fn each_is_undone()
 /// Going back over the log of a generation brings the state back.
 pub fn generation_is_undone()
     ensures { GenerationIsUndone }
+{}
+
+/// What a state says of a made instance, it entails.
+pub fn description_is_entailed()
+    ensures { DescriptionIsEntailed }
 {}
