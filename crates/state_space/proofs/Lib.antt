@@ -27,5 +27,6 @@ pub mod WholeCovered
 pub mod UndoneGeneration
 pub mod DescriptionLists
 pub mod DescriptionLaws
+pub mod WideLaws
 mod StateExamples
 mod SharedExamples

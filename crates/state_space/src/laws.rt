@@ -3,6 +3,7 @@ ghost use Rattle.state_space.specs.Covers.{CoversSentences};
 ghost use Rattle.state_space.specs.Declared.{ValidHasIds, ValidHasWholeDomains, ValidHasFew};
 ghost use Rattle.state_space.specs.Described.{DescriptionIsEntailed};
 ghost use Rattle.state_space.specs.Laws.{RootIsState, RootCovers, KindsNarrowed, DomainNarrowed, PortNarrowed, ChangeIsExact, EmptyCoversNone, ChangeEntails, EachKeepsState, NarrowingKeepsState, GenerationKeepsState, GenerationKeeps, OwedIsLinked, EntailedHolds, ChangeKeeps, FittingIsEntailed, FittingKeepsState, OppositeHolds, WholeCoversOnlyOne, WholeCoversNoMore, WholeCoversItsOwn, WholeCoversOne, SizeIsPositive, EachIsLess, SmallerIsLess, GenerationIsLess, FittingIsLess, UndoneInTurn, EachIsUndone, GenerationIsUndone};
+ghost use Rattle.state_space.specs.Unshared.{RootIsWide, ChangeKeepsWide};
 
 /// A configuration is covered exactly where the sentences of covering hold.
 pub fn covers_sentences()
@@ -182,4 +183,14 @@ pub fn generation_is_undone()
 /// What a state says of a made instance, it entails.
 pub fn description_is_entailed()
     ensures { DescriptionIsEntailed }
+{}
+
+/// What not all possible types have is in the root state as wide as each of them allows.
+pub fn root_is_wide()
+    ensures { RootIsWide }
+{}
+
+/// A change by any literal that fits keeps a state so.
+pub fn change_keeps_wide()
+    ensures { ChangeKeepsWide }
 {}
