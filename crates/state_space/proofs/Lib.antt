@@ -27,6 +27,7 @@ pub mod WholeCovered
 pub mod UndoneGeneration
 pub mod DescriptionLists
 pub mod DescriptionLaws
+pub mod DescribedParts
 pub mod WideLaws
 mod StateExamples
 mod SharedExamples

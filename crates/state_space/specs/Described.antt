@@ -56,7 +56,7 @@ AttributeIsDescribed =
 abbrev pub PortIsDescribed : Type 0
 PortIsDescribed =
     (m : Model) (s : State) (i p : ℕ) (q : PortState) (c : List Instance) (x : Instance)
-    → IsTrue (all_have_port m s i p) → port_at s i p ≡ Some q
+    → IsState m s → IsTrue (all_have_port m s i p) → port_at s i p ≡ Some q
     → HasAll m c (port_description m s i p) → IsAt c i x → IsTrue (has_port m x.kind p)
     → IsTrue (allows q (parted (number_made s) (links_of m x p)))
 

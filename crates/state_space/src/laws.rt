@@ -1,7 +1,7 @@
 //! The laws of partial states, each as a function that a layer above can call.
 ghost use Rattle.state_space.specs.Covers.{CoversSentences};
 ghost use Rattle.state_space.specs.Declared.{ValidHasIds, ValidHasWholeDomains, ValidHasFew};
-ghost use Rattle.state_space.specs.Described.{DescriptionIsEntailed};
+ghost use Rattle.state_space.specs.Described.{DescriptionIsEntailed, KindsAreDescribed, AttributeIsDescribed, PortIsDescribed, CountsAreDescribed};
 ghost use Rattle.state_space.specs.Laws.{RootIsState, RootCovers, KindsNarrowed, DomainNarrowed, PortNarrowed, ChangeIsExact, EmptyCoversNone, ChangeEntails, EachKeepsState, NarrowingKeepsState, GenerationKeepsState, GenerationKeeps, OwedIsLinked, EntailedHolds, ChangeKeeps, FittingIsEntailed, FittingKeepsState, OppositeHolds, WholeCoversOnlyOne, WholeCoversNoMore, WholeCoversItsOwn, WholeCoversOne, SizeIsPositive, EachIsLess, SmallerIsLess, GenerationIsLess, FittingIsLess, UndoneInTurn, EachIsUndone, GenerationIsUndone};
 ghost use Rattle.state_space.specs.Unshared.{RootIsWide, ChangeKeepsWide};
 
@@ -183,6 +183,28 @@ pub fn generation_is_undone()
 /// What a state says of a made instance, it entails.
 pub fn description_is_entailed()
     ensures { DescriptionIsEntailed }
+{}
+
+/// An instance of a leaf type that has the description of the types is of a possible one.
+pub fn kinds_are_described()
+    ensures { KindsAreDescribed }
+{}
+
+/// An instance that has the description of an attribute, and has the attribute, has a possible
+/// value.
+pub fn attribute_is_described()
+    ensures { AttributeIsDescribed }
+{}
+
+/// An instance that has the description of a port, and has the port, has possible links.
+pub fn port_is_described()
+    ensures { PortIsDescribed }
+{}
+
+/// An instance that has the description of the number of a port's links, and has the port, has as
+/// many links.
+pub fn counts_are_described()
+    ensures { CountsAreDescribed }
 {}
 
 /// What not all possible types have is in the root state as wide as each of them allows.
