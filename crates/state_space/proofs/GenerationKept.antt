@@ -40,7 +40,7 @@ use Rattle.state_space.proofs.NewLaws.{new_covers, entry_at, slice_get-enumerate
 
 module _ (m : Model) (c : List Instance) (ids : HasIds m) (shape : HasShape m c) (i : ℕ) (y : Instance) (at : IsAt c i y) where
   -- the value at the place of an attribute is the value under its id
-  value_at_place : (k : ℕ) (a : AttrAt) (v : ℤ) → IsAt (attributes_at m y.kind) k a → IsAt y.values k v → value_of m y a.id ≡ v
+  pub value_at_place : (k : ℕ) (a : AttrAt) (v : ℤ) → IsAt (attributes_at m y.kind) k a → IsAt y.values k v → value_of m y a.id ≡ v
   value_at_place k a v entry value =
       ap (λ o. option_map_or (λ k. slice_index_or y.values k (pos 0)) o (pos 0)) (position_here (λ (a : AttrAt). a.id) (attributes_at m y.kind) (ids.attributes_apart y.kind) k a entry)
       ∙ get_or_from_slice_get y.values k v (pos 0) value

@@ -28,6 +28,7 @@ pub mod UndoneGeneration
 pub mod DescriptionLists
 pub mod DescriptionLaws
 pub mod DescribedParts
+pub mod DescribedCovered
 pub mod WideLaws
 mod StateExamples
 mod SharedExamples

@@ -1,7 +1,7 @@
 //! The laws of partial states, each as a function that a layer above can call.
 ghost use Rattle.state_space.specs.Covers.{CoversSentences};
 ghost use Rattle.state_space.specs.Declared.{ValidHasIds, ValidHasWholeDomains, ValidHasFew};
-ghost use Rattle.state_space.specs.Described.{DescriptionIsEntailed, KindsAreDescribed, AttributeIsDescribed, PortIsDescribed, CountsAreDescribed};
+ghost use Rattle.state_space.specs.Described.{DescriptionIsEntailed, KindsAreDescribed, AttributeIsDescribed, PortIsDescribed, CountsAreDescribed, DescribedIsCovered};
 ghost use Rattle.state_space.specs.Laws.{RootIsState, RootCovers, KindsNarrowed, DomainNarrowed, PortNarrowed, ChangeIsExact, EmptyCoversNone, ChangeEntails, EachKeepsState, NarrowingKeepsState, GenerationKeepsState, GenerationKeeps, OwedIsLinked, EntailedHolds, ChangeKeeps, FittingIsEntailed, FittingKeepsState, OppositeHolds, WholeCoversOnlyOne, WholeCoversNoMore, WholeCoversItsOwn, WholeCoversOne, SizeIsPositive, EachIsLess, SmallerIsLess, GenerationIsLess, FittingIsLess, UndoneInTurn, EachIsUndone, GenerationIsUndone};
 ghost use Rattle.state_space.specs.Unshared.{RootIsWide, ChangeKeepsWide};
 
@@ -205,6 +205,12 @@ pub fn port_is_described()
 /// many links.
 pub fn counts_are_described()
     ensures { CountsAreDescribed }
+{}
+
+/// A configuration that satisfies the model and has the descriptions of all made instances is
+/// covered, where the state is wide in what only some types have.
+pub fn described_is_covered()
+    ensures { DescribedIsCovered }
 {}
 
 /// What not all possible types have is in the root state as wide as each of them allows.
