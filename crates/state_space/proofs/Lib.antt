@@ -32,3 +32,4 @@ pub mod DescribedCovered
 pub mod WideLaws
 mod StateExamples
 mod SharedExamples
+mod DescriptionExamples
