@@ -2,6 +2,7 @@ pub mod Narrowing
 pub mod Bits
 pub mod Words
 pub mod Intervals
+pub mod Gaps
 pub mod Cuts
 pub mod Fronts
 pub mod Ranges

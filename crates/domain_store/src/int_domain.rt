@@ -2,7 +2,8 @@
 ghost use Rattle.std.specs.Prelude.{◌<◌, OnOk, OnErr, ◌≡◌, ◌≤ℤ◌, ◌∷◌, [], IfOk, IsTrue, int_le, take, length, ◌≤◌};
 ghost use Rattle.std.specs.List.{list_any, list_all, position};
 ghost use Rattle.std.specs.Ordering.{int_eq};
-ghost use Rattle.domain_store.specs.Intervals.{are_intervals, is_other, is_inside, is_in_one, IsLeastNumber, IsGreatestNumber, NarrowsNumbers};
+ghost use Rattle.domain_store.specs.Gaps.{IsNextGap};
+ghost use Rattle.domain_store.specs.Intervals.{are_intervals, ascend_apart, is_other, is_inside, is_in_one, IsLeastNumber, IsGreatestNumber, NarrowsNumbers};
 ghost use Rattle.domain_store.specs.steps.Cut.{is_some, is_part, common, cut};
 ghost use Rattle.domain_store.specs.steps.Without.{without, replaced};
 ghost use Rattle.domain_store.specs.steps.Ends.{low_of, high_of};
@@ -63,6 +64,14 @@ impl IntDomain {
         ensures { result ≡ is_in_one self.now n }
     {
         self.intervals.as_slice().iter().any(|r| r.contains(n))
+    }
+
+    /// The first number from `from` on that is missing although the set has a greater one. One pass
+    /// over the intervals, and no memory.
+    pub fn gap_from(&self, from: i64) -> Option<i64>
+        ensures { IsNextGap (is_in_one self.now) from result }
+    {
+        gap_between(self.intervals.as_slice(), from)
     }
 
     /// The same set. `AllocError` where memory runs out.
@@ -152,6 +161,23 @@ fn last_high(intervals: &[Interval]) -> i64
         Some(last) => last.high,
         None => 0,
     }
+}
+
+/// The first number from `from` on that lies in none of the intervals, although one is above it.
+fn gap_between(intervals: &[Interval], from: i64) -> Option<i64>
+    requires { IsTrue (ascend_apart intervals.now) }
+    ensures { IsNextGap (is_in_one intervals.now) from result }
+{
+    let (first, rest) = intervals.split_first()?;
+    if first.high < from {
+        return gap_between(rest, from);
+    }
+    if from < first.low {
+        return Some(from);
+    }
+    let next = rest.first()?;
+    prove!(first.high < next.low);
+    Some(first.high + 1)
 }
 
 /// Whether one of the intervals has a number of the range.

@@ -132,3 +132,51 @@ fn is_cut_at_both_ends(alloc: Global) -> Result<bool, AllocError> {
 fn removes_the_outermost_numbers(rt: HostRuntime) {
     assert!(rt; is_cut_at_both_ends(rt.alloc()).unwrap_or(true));
 }
+
+/// What is removed from the numbers 0 to 9, where a search begins, and the first gap from there on.
+type GapCase<'a> = (&'a [i64], i64, Option<i64>);
+
+const GAPS: [GapCase<'static>; 12] = [
+    (&[], -5, Some(-5)),
+    (&[], 0, None),
+    (&[], 10, None),
+    (&[3, 4, 6], -1, Some(-1)),
+    (&[3, 4, 6], 0, Some(3)),
+    (&[3, 4, 6], 3, Some(3)),
+    (&[3, 4, 6], 4, Some(4)),
+    (&[3, 4, 6], 5, Some(6)),
+    (&[3, 4, 6], 7, None),
+    (&[0, 1], 0, Some(0)),
+    (&[8, 9], 2, None),
+    (&[1, 8], 2, Some(8)),
+];
+
+fn gap_without(alloc: Global, removed: &[i64], from: i64) -> Result<Option<i64>, AllocError> {
+    let mut domain = IntDomain::from_range(alloc, 0, 9)?;
+    for n in removed {
+        domain.remove(*n)?;
+    }
+    Ok(domain.gap_from(from))
+}
+
+#[test]
+fn finds_the_next_gap(rt: HostRuntime) {
+    for (removed, from, gap) in &GAPS {
+        assert!(rt; gap_without(rt.alloc(), removed, *from).unwrap_or(*gap) == *gap);
+    }
+}
+
+fn has_gaps_between_the_ends(alloc: Global) -> Result<bool, AllocError> {
+    let mut domain = IntDomain::from_range(alloc, i64::MIN, i64::MAX)?;
+    domain.remove(0)?;
+    let one = domain.gap_from(i64::MIN) == Some(0) && domain.gap_from(1).is_none();
+    domain.remove(i64::MIN)?;
+    domain.remove(i64::MAX)?;
+    let ends = domain.gap_from(i64::MIN) == Some(i64::MIN) && domain.gap_from(i64::MAX).is_none();
+    Ok(one && ends)
+}
+
+#[test]
+fn finds_gaps_between_the_outermost_numbers(rt: HostRuntime) {
+    assert!(rt; has_gaps_between_the_ends(rt.alloc()).unwrap_or(true));
+}
