@@ -10,49 +10,8 @@ ghost use Rattle.canonical_form.specs.steps.FirstRows.{AreFirsts};
 ghost use Rattle.canonical_form.specs.steps.FirstDeclared.{with_new, first_declarations};
 
 use indexmap::IndexSet;
-use prod_model::{AttrDecl, Items, Model, PortDecl, Problem, TypeDecl};
+use prod_model::{AttrDecl, Declaration, Items, Model, PortDecl, Problem, TypeDecl};
 use std::alloc::{AllocError, Global};
-
-/// A declaration of an attribute or of a port.
-trait Declaration {
-    ghost declared: { TypeDecl → List Self };
-
-    ghost name_of: { Self → List ℕ };
-
-    fn all_of(kind: &TypeDecl) -> &[Self]
-        ensures { result.now ≡ declared kind.now };
-
-    fn name(&self) -> &[u8]
-        ensures { result.now ≡ name_of self.now };
-}
-
-impl Declaration for AttrDecl {
-    ghost declared = { λ kind. kind.attributes };
-
-    ghost name_of = { λ d. d.name };
-
-    fn all_of(kind: &TypeDecl) -> &[AttrDecl] {
-        kind.attributes.as_slice()
-    }
-
-    fn name(&self) -> &[u8] {
-        self.name.bytes()
-    }
-}
-
-impl Declaration for PortDecl {
-    ghost declared = { λ kind. kind.ports };
-
-    ghost name_of = { λ d. d.name };
-
-    fn all_of(kind: &TypeDecl) -> &[PortDecl] {
-        kind.ports.as_slice()
-    }
-
-    fn name(&self) -> &[u8] {
-        self.name.bytes()
-    }
-}
 
 /// The first declarations of a type's attributes and of its ports, each in the type's order.
 #[derive(Drop)]
@@ -210,7 +169,7 @@ fn put_new<'a, D: Declaration>(
     ensures firsts { OnOk result (map (λ e. e.now) firsts.new.items
         ≡ with_new D.name_of (map (λ e. e.now) firsts.old.items) d.now) }
 {
-    if names.insert(d.name())? {
+    if names.insert(d.name().bytes())? {
         firsts.push(d)?;
     }
     Ok(())

@@ -7,54 +7,13 @@ ghost use Rattle.prod_model.specs.Forest.{line_within};
 ghost use Rattle.prod_model.specs.Names.{same_text};
 ghost use Rattle.prod_model.specs.Taxonomy.{declarations_of, is_declared_above, new_declarations, attributes_of, attributes_at, ports_of, ports_at};
 
-use prod_model::{AttrDecl, Model, PortDecl, Problem, TypeDecl};
+use prod_model::{AttrDecl, Declaration, Model, PortDecl, Problem, TypeDecl};
 use sqlite_items::at;
-
-/// A declaration of an attribute or of a port.
-trait Declaration {
-    ghost declared: { TypeDecl → List Self };
-
-    ghost name_of: { Self → List ℕ };
-
-    fn all_of(kind: &TypeDecl) -> &[Self]
-        ensures { result.now ≡ declared kind.now };
-
-    fn name(&self) -> &[u8]
-        ensures { result.now ≡ name_of self.now };
-}
-
-impl Declaration for AttrDecl {
-    ghost declared = { λ kind. kind.attributes };
-
-    ghost name_of = { λ d. d.name };
-
-    fn all_of(kind: &TypeDecl) -> &[AttrDecl] {
-        kind.attributes.as_slice()
-    }
-
-    fn name(&self) -> &[u8] {
-        self.name.bytes()
-    }
-}
-
-impl Declaration for PortDecl {
-    ghost declared = { λ kind. kind.ports };
-
-    ghost name_of = { λ d. d.name };
-
-    fn all_of(kind: &TypeDecl) -> &[PortDecl] {
-        kind.ports.as_slice()
-    }
-
-    fn name(&self) -> &[u8] {
-        self.name.bytes()
-    }
-}
 
 fn declares<D: Declaration>(declared: &[D], name: &[u8]) -> bool
     ensures { result ≡ list_any (λ d. same_text name.now (D.name_of d)) declared.now }
 {
-    declared.iter().any(|d| name == d.name())
+    declared.iter().any(|d| name == d.name().bytes())
 }
 
 /// Whether a type or one above it, at most so many of them, declares the name.
@@ -86,7 +45,12 @@ fn is_new<D: Declaration>(types: &[TypeDecl], t: u32, declared: &D) -> bool
         return true;
     };
     match kind.parent {
-        Some(parent) => !is_declared_along::<D>(types, parent, declared.name(), types.len()),
+        Some(parent) => !is_declared_along::<D>(
+            types,
+            parent,
+            declared.name().bytes(),
+            types.len(),
+        ),
         None => true,
     }
 }
@@ -124,7 +88,7 @@ fn new_name<'a, D: Declaration + 'a>(model: &'a Model, t: u32, before: usize) ->
     let types = model.types.as_slice();
     let kind = at(types, t as usize)?;
     let declared = nth_new::<D>(types, t, D::all_of(kind), before)?;
-    Some(declared.name())
+    Some(declared.name().bytes())
 }
 
 /// How many attributes a type has, and none where it is no type.

@@ -9,49 +9,8 @@ ghost use Rattle.file_meaning.specs.Named.{attribute_names, port_names};
 ghost use Rattle.file_meaning.specs.steps.FirstDeclared.{with_new, names_of, first_names};
 
 use file_values::Names;
-use prod_model::{AttrDecl, Items, Model, PortDecl, TypeDecl};
+use prod_model::{AttrDecl, Declaration, Items, Model, PortDecl, TypeDecl};
 use std::alloc::{AllocError, Global};
-
-/// A declaration of an attribute or of a port.
-pub(crate) trait Declaration {
-    ghost declared: { TypeDecl → List Self };
-
-    ghost name_of: { Self → List ℕ };
-
-    fn all_of(kind: &TypeDecl) -> &[Self]
-        ensures { result.now ≡ declared kind.now };
-
-    fn name(&self) -> &[u8]
-        ensures { result.now ≡ name_of self.now };
-}
-
-impl Declaration for AttrDecl {
-    ghost declared = { λ kind. kind.attributes };
-
-    ghost name_of = { λ d. d.name };
-
-    fn all_of(kind: &TypeDecl) -> &[AttrDecl] {
-        kind.attributes.as_slice()
-    }
-
-    fn name(&self) -> &[u8] {
-        self.name.bytes()
-    }
-}
-
-impl Declaration for PortDecl {
-    ghost declared = { λ kind. kind.ports };
-
-    ghost name_of = { λ d. d.name };
-
-    fn all_of(kind: &TypeDecl) -> &[PortDecl] {
-        kind.ports.as_slice()
-    }
-
-    fn name(&self) -> &[u8] {
-        self.name.bytes()
-    }
-}
 
 /// The names of a type's attributes, in the order of its attributes. It goes once over the
 /// declarations along the type's line.
@@ -143,7 +102,7 @@ fn put_names<'m, D: Declaration + 'm>(
         return Ok(())
     };
     for d in D::all_of(kind) {
-        put_name(names, d.name())?;
+        put_name(names, d.name().bytes())?;
     }
     Ok(())
 }

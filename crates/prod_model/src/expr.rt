@@ -93,7 +93,7 @@ impl Expr {
 
     /// Whether the two are the same form with the same arguments in the same order.
     #[cycle(comparisons)]
-    pub(crate) fn same(&self, other: &Expr) -> bool
+    pub fn same(&self, other: &Expr) -> bool
         ensures { IsTrue result ↔ (self.now ≡ other.now) }
     {
         match (self, other) {

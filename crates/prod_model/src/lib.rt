@@ -2,6 +2,7 @@
 #![tactic(auto)]
 
 mod copies;
+mod declaration;
 mod expr;
 mod expr_bounds;
 pub mod laws;
@@ -16,6 +17,7 @@ mod tables;
 mod tests;
 mod type_masks;
 
+pub use declaration::Declaration;
 pub use expr::{Expr, Relation};
 pub use expr_bounds::Bounds;
 pub use model::{

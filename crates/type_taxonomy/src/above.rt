@@ -5,9 +5,8 @@ ghost use Rattle.type_taxonomy.specs.steps.Above.{found_along, IsAbove};
 ghost use Rattle.type_taxonomy.specs.steps.ByName.{found};
 
 use crate::by_name::{Found, put_all};
-use crate::declaration::Declaration;
 use indexmap::IndexMap;
-use prod_model::{AttrDecl, PortDecl, TypeDecl};
+use prod_model::{AttrDecl, Declaration, PortDecl, TypeDecl};
 use std::alloc::{AllocError, Global};
 
 /// The nearest declarations above a type, by name.
@@ -23,7 +22,7 @@ pub(crate) fn declared_at<D: Declaration>(types: &[TypeDecl], t: u32) -> &[D]
 {
     match types.get(t as usize) {
         None => &[],
-        Some(d) => D::declared(d),
+        Some(d) => D::all_of(d),
     }
 }
 

@@ -4,9 +4,8 @@ ghost use Rattle.std.specs.Option.{option_map, option_or};
 ghost use Rattle.prod_model.specs.Names.{same_text};
 ghost use Rattle.type_taxonomy.specs.steps.ByName.{found, found_at};
 
-use crate::declaration::Declaration;
 use indexmap::IndexMap;
-use prod_model::Name;
+use prod_model::{Declaration, Name};
 use std::alloc::{AllocError, Global};
 
 /// A declaration, and the number of types on its line from its own upwards.

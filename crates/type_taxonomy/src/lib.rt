@@ -4,7 +4,6 @@
 mod above;
 mod by_name;
 mod circle;
-mod declaration;
 mod entry;
 mod fault;
 mod forest;

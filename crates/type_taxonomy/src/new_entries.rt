@@ -5,9 +5,8 @@ ghost use Rattle.type_taxonomy.specs.steps.Entries.{named, is_new_among, numbere
 
 use crate::above::names_above;
 use crate::by_name::is_free;
-use crate::declaration::Declaration;
 use crate::entry::Entry;
-use prod_model::{Items, TypeDecl};
+use prod_model::{Declaration, Items, TypeDecl};
 use std::alloc::{AllocError, Global};
 
 /// What is new in each type, numbered in file order. For each type the declarations of its
@@ -55,7 +54,7 @@ fn new_in<'a, D: Declaration>(
 {
     let above = names_above::<D>(alloc, types, line)?;
     let mut row = Items::new(alloc);
-    for declared in D::declared(decl) {
+    for declared in D::all_of(decl) {
         if is_free(&above, declared.name()) {
             let id = first_id + row.len() as u32;
             row.push(Entry { id, declared })?;

@@ -7,11 +7,10 @@ ghost use Rattle.type_taxonomy.specs.steps.Entries.{named, narrowed_by, AreLines
 ghost use Rattle.type_taxonomy.specs.steps.TypeForest.{IsForest, HasRows};
 
 use crate::by_name::{Found, look_up, names_of};
-use crate::declaration::Declaration;
 use crate::entry::Entry;
 use crate::line::depth;
 use indexmap::IndexMap;
-use prod_model::{Items, TypeDecl};
+use prod_model::{Declaration, Items, TypeDecl};
 use std::alloc::{AllocError, Global};
 
 /// An inherited entry, narrowed where one of the declarations has its name.
@@ -47,7 +46,7 @@ fn narrowed<'a, D: Declaration>(
         ≡ narrowed_by D.declared D.name_of (D.declared decl.now)
         (map (named D.name_of) inherited.now)) }
 {
-    let declared = names_of(alloc, D::declared(decl))?;
+    let declared = names_of(alloc, D::all_of(decl))?;
     let mut row = Items::new(alloc);
     for e in inherited {
         row.push(kept(&declared, e))?;

@@ -1,13 +1,14 @@
 //! What is built of a model, as a text.
 ghost use Rattle.std.specs.Prelude.{◌≡◌, length, sum_by, IfSome};
 
-use crate::declaration::Declaration;
 use crate::fault::TaxFault;
 use crate::inverse_fault::InverseFault;
 use crate::named_inverses::inverses_few;
 use crate::taxonomy::build_few;
 use model_literals::{TypeLiteral, model_of, types_of};
-use prod_model::{AttrAt, AttrDecl, Domain, Model, PortAt, PortDecl, PortKind, Tables, TypeDecl};
+use prod_model::{
+    AttrAt, AttrDecl, Declaration, Domain, Model, PortAt, PortDecl, PortKind, Tables, TypeDecl,
+};
 use std::alloc::{AllocError, Global};
 use std::fmt::Write;
 use std::test::Fail;
@@ -18,7 +19,7 @@ fn count<D: Declaration>(types: &[TypeDecl]) -> Option<u32>
 {
     let mut number = 0u32;
     for decl in types {
-        number = number.checked_add(u32::try_from(D::declared(decl).len()).ok()?)?;
+        number = number.checked_add(u32::try_from(D::all_of(decl).len()).ok()?)?;
     }
     Some(number)
 }

@@ -20,14 +20,14 @@ loop-declared-preserved g c =
           record {
             of_type = so_far.of_type;
             few = length_push_le _ _ _ _ so_far.few pushed;
-            row = numbered_more it.declared it.name_of c.args.first_id is_new c.declared-declared-items.result.now c.loop-declared.declared-index c.loop-declared.row c.if-is_free.row _
+            row = numbered_more it.declared it.name_of c.args.first_id is_new c.all_of-declared-items.result.now c.loop-declared.declared-index c.loop-declared.row c.if-is_free.row _
                 c.loop-declared-test.true c.declared-item.is (told ∙ w.if-is_free.true) (ap (λ k. c.args.first_id + k) w.len.ensures) so_far.row pushed;
           }
       | else-is_free w ↦ record {
         of_type = so_far.of_type;
         few = omega (arith, ap length w.row-is, so_far.few);
         row = ap (map (named it.name_of)) w.row-is
-            ∙ numbered_same it.declared it.name_of c.args.first_id is_new c.declared-declared-items.result.now c.loop-declared.declared-index c.loop-declared.row _
+            ∙ numbered_same it.declared it.name_of c.args.first_id is_new c.all_of-declared-items.result.now c.loop-declared.declared-index c.loop-declared.row _
             c.loop-declared-test.true c.declared-item.is (told ∙ w.if-is_free.false) so_far.row;
       }
     ]

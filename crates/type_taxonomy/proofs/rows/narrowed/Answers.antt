@@ -12,5 +12,5 @@ loop-e-preserved g c =
     narrowed_more it.declared it.name_of ds c.args.inherited.now c.loop-e.e-index c.loop-e.row c.push.new.self e c.kept.result
     c.loop-e-test.true c.e-item.is
     (named_narrowed it.declared it.name_of ds e c.kept.result (found c.in_ok-declared.declared name) c.kept.ensures.id c.kept.ensures.declared
-    (c.in_ok-declared.ensures name ∙ ap (λ l. found_at it.name_of 1 l name) c.declared.ensures))
+    (c.in_ok-declared.ensures name ∙ ap (λ l. found_at it.name_of 1 l name) c.all_of.ensures))
     c.loop-e.invariant c.in_ok-push.ensures.ok

@@ -2,29 +2,31 @@
 ghost use Rattle.std.specs.Prelude.{◌≡◌, ℕ, List};
 ghost use Rattle.prod_model.specs.declared.model.TypeDecl.{TypeDecl};
 
-use prod_model::{AttrDecl, Name, PortDecl, TypeDecl};
+use crate::model::{AttrDecl, PortDecl, TypeDecl};
+use crate::name::Name;
 
 /// A declaration of an attribute or of a port.
-pub(crate) trait Declaration {
+pub trait Declaration {
     ghost declared: { TypeDecl → List Self };
 
     ghost name_of: { Self → List ℕ };
 
     /// Those of a type, in file order.
-    fn declared(decl: &TypeDecl) -> &[Self]
-        ensures { result.now ≡ declared decl.now };
+    fn all_of(kind: &TypeDecl) -> &[Self]
+        ensures { result.now ≡ declared kind.now };
 
+    /// What it is named.
     fn name(&self) -> &Name
         ensures { result.now ≡ name_of self.now };
 }
 
 impl Declaration for AttrDecl {
-    ghost declared = { λ d. d.attributes };
+    ghost declared = { λ kind. kind.attributes };
 
-    ghost name_of = { λ a. a.name };
+    ghost name_of = { λ d. d.name };
 
-    fn declared(decl: &TypeDecl) -> &[AttrDecl] {
-        decl.attributes.as_slice()
+    fn all_of(kind: &TypeDecl) -> &[AttrDecl] {
+        kind.attributes.as_slice()
     }
 
     fn name(&self) -> &Name {
@@ -33,12 +35,12 @@ impl Declaration for AttrDecl {
 }
 
 impl Declaration for PortDecl {
-    ghost declared = { λ d. d.ports };
+    ghost declared = { λ kind. kind.ports };
 
-    ghost name_of = { λ p. p.name };
+    ghost name_of = { λ d. d.name };
 
-    fn declared(decl: &TypeDecl) -> &[PortDecl] {
-        decl.ports.as_slice()
+    fn all_of(kind: &TypeDecl) -> &[PortDecl] {
+        kind.ports.as_slice()
     }
 
     fn name(&self) -> &Name {
