@@ -1,7 +1,8 @@
 //! What the changes of a partial state replaced.
 ghost use Rattle.std.specs.Prelude.{◌≡◌, ◌<◌, ◌∷◌, ◌++◌, [], length, take, IfOk, OnOk, OnErr};
-ghost use Rattle.state_space.specs.Undo.{Kinds, Domain, Port};
+ghost use Rattle.state_space.specs.Undo.{Kinds, Domain, Port, Made};
 
+use crate::copies::copy_slice;
 use crate::kinds::KindSet;
 use crate::ports::MadePort;
 use crate::values::AttributeDomain;
@@ -85,6 +86,39 @@ impl LogEntry {
     }
 }
 
+impl LogEntry {
+    /// That the last instance was not made.
+    pub(crate) fn of_made() -> LogEntry
+        ensures { result ≡ Made }
+    {
+        LogEntry {
+            replaced: Replaced::Made,
+        }
+    }
+}
+
+impl LogEntry {
+    /// The same entry. `AllocError` where memory runs out.
+    pub(crate) fn copy(&self, alloc: Global) -> Result<LogEntry, AllocError>
+        ensures { IfOk result (λ e. e ≡ self.now) }
+    {
+        match &self.replaced {
+            Replaced::Kinds { instance, kinds } => Ok(LogEntry::of_kinds(*instance, kinds.copy())),
+            Replaced::Domain {
+                instance,
+                attr,
+                values,
+            } => Ok(LogEntry::of_domain(*instance, *attr, values.copy(alloc)?)),
+            Replaced::Port {
+                instance,
+                port,
+                links,
+            } => Ok(LogEntry::of_port(*instance, *port, MadePort::from_links(links.links()))),
+            Replaced::Made => Ok(LogEntry::of_made()),
+        }
+    }
+}
+
 /// What was replaced, seen as the list of old values, the latest last. There are fewer than 2^32.
 #[derive(Drop)]
 pub struct ChangeLog {
@@ -110,6 +144,15 @@ impl ChangeLog {
         ChangeLog {
             entries: Vec::new(alloc),
         }
+    }
+
+    /// The same log, in memory of its own. `AllocError` where memory runs out.
+    pub fn copy(&self, alloc: Global) -> Result<ChangeLog, AllocError>
+        ensures { IfOk result (λ l. l ≡ self.now) }
+    {
+        Ok(ChangeLog {
+            entries: copy_slice(alloc, self.entries.as_slice())?,
+        })
     }
 
     /// How many entries it has.

@@ -1,6 +1,7 @@
 //! Copies of what a partial state holds, tables too.
 ghost use Rattle.std.specs.Prelude.{◌≡◌, IfOk};
 
+use crate::change_log::LogEntry;
 use crate::ports::MadePort;
 use crate::row::InstanceRow;
 use crate::values::AttributeDomain;
@@ -53,5 +54,11 @@ impl Copies for MadePort {
 impl Copies for InstanceRow {
     fn copy(&self, alloc: Global) -> Result<InstanceRow, AllocError> {
         InstanceRow::copy(self, alloc)
+    }
+}
+
+impl Copies for LogEntry {
+    fn copy(&self, alloc: Global) -> Result<LogEntry, AllocError> {
+        LogEntry::copy(self, alloc)
     }
 }

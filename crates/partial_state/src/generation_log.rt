@@ -3,10 +3,10 @@ ghost use Rattle.std.specs.Prelude.{◌≡◌, ◌≤◌, ◌++◌, length, IsTr
 ghost use Rattle.std.specs.List.{flat_map, enumerate_from};
 ghost use Rattle.state_space.specs.State.{IsState};
 ghost use Rattle.state_space.specs.Generation.{can_generate, generated};
-ghost use Rattle.state_space.specs.Undo.{Made, old_port, generation_log};
+ghost use Rattle.state_space.specs.Undo.{old_port, generation_log};
 ghost use Rattle.partial_state.specs.steps.GenerationLog.{Extends, old_ports, all_old_ports, HaveFewPorts};
 
-use crate::change_log::{ChangeLog, LogEntry, Replaced};
+use crate::change_log::{ChangeLog, LogEntry};
 use crate::partial::Partial;
 use crate::ports::MadePort;
 use crate::row::InstanceRow;
@@ -119,15 +119,4 @@ fn log_slot(
         }
     }
     Ok(())
-}
-
-impl LogEntry {
-    /// That the last instance was not made.
-    fn of_made() -> LogEntry
-        ensures { result ≡ Made }
-    {
-        LogEntry {
-            replaced: Replaced::Made,
-        }
-    }
 }
