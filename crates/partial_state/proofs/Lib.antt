@@ -7,6 +7,7 @@ pub mod NewPorts
 pub mod Counts
 pub mod WordNarrowings
 pub mod ValueNarrowings
+pub mod WordGaps
 pub mod StoredNarrowings
 pub mod PortNarrowings
 pub mod PortCalls

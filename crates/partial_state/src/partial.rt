@@ -3,9 +3,10 @@ ghost use Rattle.std.specs.Prelude.{◌≡◌, ◌≤◌, ◌-◌, length, take,
 ghost use Rattle.std.specs.Option.{option_copied, ForSome};
 ghost use Rattle.std.specs.Int.{bit_at};
 ghost use Rattle.std.specs.Ordering.{int_eq};
+ghost use Rattle.domain_store.specs.Gaps.{IsNextGap};
 ghost use Rattle.port_wildcards.specs.Ports.{IsPort};
 ghost use Rattle.state_space.specs.Sets.{has_number};
-ghost use Rattle.state_space.specs.Values.{are_values};
+ghost use Rattle.state_space.specs.Values.{has_value, are_values};
 ghost use Rattle.state_space.specs.State.{number_made, kinds_at, domain_at, port_at, low_at, high_at, allows_at};
 ghost use Rattle.state_space.specs.State.{with_kinds, with_domain, with_port};
 ghost use Rattle.state_space.specs.Undo.{put_back, undone};
@@ -114,6 +115,17 @@ impl Partial {
     {
         match self.domain(i, attr) {
             Some(values) => values.contains(n),
+            None => unreachable!(),
+        }
+    }
+
+    /// The first value from `n` on that the attribute can't have although it can have a greater one.
+    pub fn gap_from(&self, i: u32, attr: u32, n: i64) -> Option<i64>
+        requires { IsSome (domain_at self.now i attr) }
+        ensures { ForSome (domain_at self.now i attr) (λ d. IsNextGap (has_value d) n result) }
+    {
+        match self.domain(i, attr) {
+            Some(values) => values.gap_from(n),
             None => unreachable!(),
         }
     }

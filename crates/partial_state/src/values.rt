@@ -1,6 +1,7 @@
 //! The values that an attribute of a made instance may still have.
 ghost use Rattle.std.specs.Prelude.{◌≡◌, not, int_le, IfOk, OnErr, IsTrue};
 ghost use Rattle.std.specs.Ordering.{int_eq};
+ghost use Rattle.domain_store.specs.Gaps.{IsNextGap};
 ghost use Rattle.state_space.specs.Values.{has_value, least, greatest, are_values};
 ghost use Rattle.state_space.specs.Whole.{has_one_value};
 ghost use Rattle.partial_state.specs.Views.{values_of_domain, IsStored};
@@ -67,6 +68,13 @@ impl AttributeDomain {
         contains(&self.domain, n)
     }
 
+    /// The first number from `from` on that is none of the values although a greater one is.
+    pub(crate) fn gap_from(&self, from: i64) -> Option<i64>
+        ensures { IsNextGap (has_value self.now) from result }
+    {
+        gap_from(&self.domain, from)
+    }
+
     /// Leaves the values up to `n`.
     pub(crate) fn at_most(&mut self, n: i64) -> Change
         ensures { NarrowsInForm (λ v. int_le v n) result self.old self.new }
@@ -127,6 +135,16 @@ fn contains(domain: &Domain, n: i64) -> bool
     match domain {
         Domain::Numbers(numbers) => numbers.contains(n),
         Domain::Words(words) => words::contains(words, n),
+    }
+}
+
+fn gap_from(domain: &Domain, from: i64) -> Option<i64>
+    requires { IsStored domain.now }
+    ensures { IsNextGap (has_value (values_of_domain domain.now)) from result }
+{
+    match domain {
+        Domain::Numbers(numbers) => numbers.gap_from(from),
+        Domain::Words(words) => words::gap_from(words, from),
     }
 }
 

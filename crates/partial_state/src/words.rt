@@ -1,6 +1,7 @@
 //! Narrowings of sets of words by any whole number.
 ghost use Rattle.std.specs.Prelude.{◌≡◌, ◌≤ℤ◌, ℕ, pos, not, int_le};
 ghost use Rattle.std.specs.Ordering.{int_eq};
+ghost use Rattle.domain_store.specs.Gaps.{IsNextGap};
 ghost use Rattle.domain_store.specs.Words.{NarrowsWords};
 ghost use Rattle.state_space.specs.Values.{Words, has_value};
 ghost use Rattle.partial_state.specs.Masks.{words_of, IsWordMask};
@@ -17,6 +18,23 @@ pub(crate) fn contains(words: &WordDomain, n: i64) -> bool
         return false;
     }
     words.contains(clamped(n))
+}
+
+/// The first number from `from` on that is none of the words although a greater one is.
+pub(crate) fn gap_from(words: &WordDomain, from: i64) -> Option<i64>
+    requires { IsWordMask words.now }
+    ensures { IsNextGap (has_value (Words (words_of words.now))) from result }
+{
+    let high = words.high();
+    if from < 0 {
+        return Some(from);
+    }
+    for word in clamped(from)..high {
+        if !words.contains(word) {
+            return Some(i64::from(word));
+        }
+    }
+    None
 }
 
 /// Leaves the words up to `n`.
