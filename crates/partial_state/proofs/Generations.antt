@@ -1,10 +1,10 @@
 -- The state after the next instance is made, step by step.
 use Rattle.std.proofs.Common.{◌≡◌, ℕ, zero, suc, ◌+◌, ◌<◌, ◌≤◌, ◌∙◌, ap, ap₂, sym, subst, ◌&&◌, ◌==◌, Bool, true, false, refl, List, [], ◌∷◌, ◌++◌, length, map, Some, None, Option, get_or, arith}
-use Rattle.std.specs.Prelude.{IsTrue, slice_get, slice_set, slice_index_or, if◌then◌else◌}
-use Rattle.std.specs.Option.{option_map, option_map_or, option_and_then, is_some}
+use Rattle.std.specs.Prelude.{slice_get, slice_set, slice_index_or, if◌then◌else◌}
+use Rattle.std.specs.Option.{option_map, option_and_then, is_some}
 use Rattle.std.specs.List.{enumerate_from}
 use Rattle.std.proofs.lemmas.Bool.{eq-eqb, ne_eqb}
-use Rattle.std.proofs.lemmas.Option.{same_Some, none-some}
+use Rattle.std.proofs.lemmas.Option.{none-some}
 use Rattle.state_space.specs.Ports.{PortState, made_here, made_elsewhere}
 use Rattle.state_space.specs.Made.{MadeInstance, port_of_made}
 use Rattle.state_space.specs.State.{State, number_made, port_at, changed_at, with_port}

@@ -1,15 +1,14 @@
 -- The types of masks: beside one, in two, and those that have an attribute or a port.
-use Rattle.std.proofs.Common.{◌≡◌, ℕ, zero, suc, ◌+◌, ◌<◌, ◌≤◌, ◌≢◌, ◌^◌, ◌∙◌, ap, sym, bit_and, ◌&&◌, ◌==◌, not, nat_lt, Bool, true, false, cond, refl, inl, inr, List, [], ◌∷◌, length, map, Option, Some, None, arith, subst, zero-add, ltb-true, le-ltb, eqb-true}
+use Rattle.std.proofs.Common.{◌≡◌, ℕ, zero, suc, ◌<◌, ◌≤◌, ◌^◌, ◌∙◌, ap, sym, bit_and, ◌&&◌, ◌==◌, not, Bool, true, false, refl, inl, inr, List, [], ◌∷◌, length, map, Option, Some, None, arith, subst, le-ltb, eqb-true}
 use Rattle.std.specs.Prelude.{◌⊎◌, IsTrue, IsSome, slice_index, slice_get}
-use Rattle.std.specs.Int.{bit_at, w128, trailing_zeros}
+use Rattle.std.specs.Int.{w128, trailing_zeros}
 use Rattle.std.specs.Int.Bits.{and_lt}
 use Rattle.std.specs.Option.{is_some, option_map, option_map_or}
 use Rattle.std.specs.List.{list_any, list_all, filter, filter_map, range_with_len}
-use Rattle.std.proofs.lemmas.Bool.{false≢true, and_parts, and_from, cases_lt, cases_Bool}
+use Rattle.std.proofs.lemmas.Bool.{false≢true, and_parts, and_from}
 use Rattle.std.proofs.lemmas.Nat.Bits.{bit_at-trailing_zeros}
-use Rattle.std.proofs.lemmas.Option.{same_Some, none-some, slice_get-map, get_or_from_slice_get, slice_get_within}
+use Rattle.std.proofs.lemmas.Option.{same_Some, none-some, slice_get-map, get_or_from_slice_get}
 use Rattle.base_laws.specs.Places.{IsAt}
-use Rattle.base_laws.proofs.Places.{at_map}
 use Rattle.base_laws.proofs.Tests.{list_any_at, list_any_from}
 use Rattle.base_laws.proofs.Searches.{any_found}
 use Rattle.prod_model.specs.declared.model.Model.{Model}
@@ -19,8 +18,8 @@ use Rattle.prod_model.specs.Forest.{is_leaf, type_numbers}
 use Rattle.prod_model.specs.Taxonomy.{ports_at, port_of}
 use Rattle.domain_store.specs.Words.{has_word}
 use Rattle.domain_store.proofs.Bits.{has_both, has_none}
-use Rattle.config_value.specs.Literals.{has_attribute, has_port}
-use Rattle.state_space.specs.Sets.{has_number, set_of, members_of_mask}
+use Rattle.config_value.specs.Literals.{has_port}
+use Rattle.state_space.specs.Sets.{has_number}
 use Rattle.state_space.specs.State.{leaves_that}
 use Rattle.state_space.proofs.PortLaws.{all_has, has_number-filter}
 use Rattle.state_space.proofs.WholeLaws.{types_read, leaf_that}

@@ -1,12 +1,11 @@
 -- The leaf types that pass a test, as a mask.
 use Rattle.std.proofs.Common.{◌≡◌, ℕ, ◌<◌, ◌^◌, ◌∙◌, ap, sym, ◌&&◌, ◌==◌, Bool, true, false, refl, List, length}
-use Rattle.std.specs.Prelude.{IsTrue, if◌then◌else◌}
+use Rattle.std.specs.Prelude.{if◌then◌else◌}
 use Rattle.std.specs.List.{filter}
 use Rattle.std.proofs.lemmas.Bool.{and_parts, and_from}
 use Rattle.prod_model.specs.declared.model.Model.{Model}
 use Rattle.prod_model.specs.Forest.{is_a, is_leaf, type_numbers}
 use Rattle.prod_model.specs.TypeMasks.{IsMask}
-use Rattle.config_value.specs.Shaped.{ascends}
 use Rattle.state_space.specs.Sets.{has_number}
 use Rattle.state_space.specs.State.{leaves_that, leaves_under}
 use Rattle.state_space.proofs.PortLaws.{has_number-filter, ascends-filter}

@@ -1,5 +1,5 @@
 -- The masks of the types that have an attribute, or a port.
-use Rattle.std.proofs.Common.{◌≡◌, ◌≢◌, ℕ, zero, suc, ◌+◌, ◌<◌, ◌≤◌, ◌∙◌, ap, ap₂, sym, subst, ◌&&◌, ◌||◌, ◌==◌, nat_lt, Bool, true, false, cond, refl, inl, inr, List, [], ◌∷◌, ◌++◌, length, map, take, get_or, replicate, arith, zero-add, zero-le, lt-ltb, le-ltb, eq-eqb, ne_eqb}
+use Rattle.std.proofs.Common.{◌≡◌, ◌≢◌, ℕ, suc, ◌+◌, ◌<◌, ◌≤◌, ◌∙◌, ap, ap₂, sym, subst, ◌&&◌, ◌||◌, ◌==◌, nat_lt, Bool, true, false, cond, refl, inl, inr, List, [], ◌∷◌, ◌++◌, length, map, take, get_or, replicate, arith, zero-add, zero-le, lt-ltb, le-ltb, eq-eqb, ne_eqb}
 use Rattle.std.specs.Prelude.{◌⊎◌, slice_index, slice_set}
 use Rattle.std.specs.Int.{bit_at}
 use Rattle.std.specs.List.{list_any, range_with_len}

@@ -1,8 +1,8 @@
 -- Going over the members of a set by the least one from a number on.
-use Rattle.std.proofs.Common.{◌≡◌, ℕ, zero, suc, ◌+◌, ◌-◌, ◌<◌, ◌≤◌, ◌∙◌, ap, sym, Bool, true, false, cond, refl, inl, inr, List, [], ◌∷◌, ◌++◌, append_assoc, append-nil, Some, None, arith}
+use Rattle.std.proofs.Common.{◌≡◌, ℕ, zero, suc, ◌+◌, ◌-◌, ◌<◌, ◌≤◌, ◌∙◌, ap, sym, Bool, cond, refl, inl, inr, List, [], ◌∷◌, ◌++◌, append_assoc, append-nil, Some, None, arith}
 use Rattle.std.specs.Prelude.{IsTrue}
 use Rattle.std.specs.List.{filter, range_with_len}
-use Rattle.std.proofs.lemmas.Bool.{cases_eq, false≢true, false_from_ne_true}
+use Rattle.std.proofs.lemmas.Bool.{cases_eq, false_from_ne_true}
 use Rattle.instance_set.specs.declared.set.InstanceSet.{InstanceSet}
 use Rattle.instance_set.specs.InstanceSets.{is_member, IsLeastFrom}
 use Rattle.instance_set.proofs.Walks.{member_low}

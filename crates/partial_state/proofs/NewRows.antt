@@ -1,5 +1,5 @@
 -- The tables of a new instance.
-use Rattle.std.proofs.Common.{◌≡◌, ℕ, zero, suc, ◌+◌, ◌-◌, ◌<◌, ◌≤◌, ◌∙◌, ap, ap₂, sym, subst, ◌&&◌, ◌==◌, not, Bool, true, false, cond, refl, inl, inr, List, [], ◌∷◌, ◌++◌, length, map, get_or, take, drop, Option, Some, None, arith, length-append, length-drop, append_assoc, append-nil, zero-add, leb-true}
+use Rattle.std.proofs.Common.{◌≡◌, ℕ, suc, ◌+◌, ◌-◌, ◌<◌, ◌≤◌, ◌∙◌, ap, ap₂, sym, subst, Bool, refl, List, [], ◌∷◌, ◌++◌, length, map, get_or, take, drop, Option, Some, None, arith, length-append, length-drop, append_assoc, append-nil, zero-add, leb-true}
 use Rattle.std.specs.Prelude.{IsTrue, nat_le, slice_get, if◌then◌else◌}
 use Rattle.std.specs.Option.{option_map_or, option_and_then}
 use Rattle.std.specs.List.{list_any, list_all, flat_map, range_with_len, enumerate_from}
@@ -17,8 +17,8 @@ use Rattle.prod_model.specs.declared.model.TypeDecl.{TypeDecl}
 use Rattle.prod_model.specs.declared.model.AttrDecl.{AttrDecl}
 use Rattle.prod_model.specs.declared.model.AttrAt.{AttrAt}
 use Rattle.prod_model.specs.declared.model.Domain.{Domain}
-use Rattle.prod_model.specs.Forest.{parent_of, type_numbers}
-use Rattle.prod_model.specs.Taxonomy.{Named, declarations_of, new_declarations, first_id, new_entries, kept_entry, made_attribute, made_port, attributes_of, ports_of, attributes_at, declared_ports_at}
+use Rattle.prod_model.specs.Forest.{parent_of}
+use Rattle.prod_model.specs.Taxonomy.{Named, declarations_of, new_declarations, first_id, new_entries, kept_entry, made_attribute, attributes_of, attributes_at, declared_ports_at}
 use Rattle.prod_model.specs.Valid.{IsValid, knows_types, has_known_parents_and_targets}
 use Rattle.prod_model.proofs.TaxonomyTests.{parent_is_type, room_each}
 use Rattle.prod_model.specs.Limits.{most_attributes_of_type, most_ports_of_type}

@@ -1,10 +1,9 @@
 -- What is known of the first open port, and of the next instance.
-use Rattle.std.proofs.Common.{◌≡◌, ◌≢◌, ℕ, ◌+◌, ◌<◌, ◌≤◌, ◌^◌, ◌∙◌, ap, sym, subst, ◌&&◌, ◌==◌, Bool, true, false, not, refl, List, [], ◌∷◌, length, Some, None, Option, arith, ltb-true, leb-true}
-use Rattle.std.specs.Prelude.{IsTrue, IsSome, slice_get, nat_lt, nat_le}
-use Rattle.std.specs.Option.{option_map, option_map_or, option_and_then, is_some}
+use Rattle.std.proofs.Common.{◌≡◌, ◌≢◌, ℕ, ◌<◌, ◌≤◌, ◌^◌, ◌∙◌, ap, sym, subst, ◌==◌, false, not, refl, List, [], ◌∷◌, length, Some, arith, ltb-true, leb-true}
+use Rattle.std.specs.Prelude.{IsTrue, slice_get, nat_lt, nat_le}
+use Rattle.std.specs.Option.{option_map_or, option_and_then}
 use Rattle.std.specs.List.{list_all, range_with_len}
-use Rattle.std.proofs.lemmas.Bool.{and_parts, or_left, eq-eqb, eqb-true, false≢true}
-use Rattle.std.proofs.lemmas.Option.{same_Some, none-some}
+use Rattle.std.proofs.lemmas.Bool.{and_parts, or_left, eq-eqb, false≢true}
 use Rattle.std.specs.Int.{bit_at}
 use Rattle.std.proofs.lemmas.Nat.Bits.{bit_at-zero}
 use Rattle.base_laws.specs.Places.{IsAt}
@@ -21,11 +20,11 @@ use Rattle.config_value.specs.Literals.{has_port}
 use Rattle.state_space.specs.Values.{is_empty}
 use Rattle.state_space.specs.Sets.{has_number}
 use Rattle.state_space.specs.Ports.{PortState}
-use Rattle.state_space.specs.Made.{MadeInstance, port_of_made}
-use Rattle.state_space.specs.State.{State, IsState, number_made, kinds_at, port_at, leaves_under, IsMadeOf}
+use Rattle.state_space.specs.Made.{MadeInstance}
+use Rattle.state_space.specs.State.{State, number_made, kinds_at, port_at, leaves_under, IsMadeOf}
 use Rattle.state_space.specs.Root.{new_instance}
-use Rattle.state_space.specs.Generation.{PortOf, first_open, open_port_passes, can_generate, target_at, generated_for, generated}
-use Rattle.state_space.proofs.OpenPort.{find_place, IsFirstOpen}
+use Rattle.state_space.specs.Generation.{PortOf, open_port_passes, can_generate, target_at, generated_for, generated}
+use Rattle.state_space.proofs.OpenPort.{find_place}
 use Rattle.state_space.proofs.GenerationKept.{first_open_is}
 use Rattle.state_space.proofs.FewLaws.{valid_has_few}
 use Rattle.state_space.proofs.NewState.{ascends-range, range_below, new_is_made, port_there}

@@ -1,7 +1,7 @@
 -- The first open port, instance by instance.
 use Rattle.std.proofs.Common.{◌≡◌, ℕ, zero, suc, ◌+◌, ◌<◌, ◌≤◌, ◌∙◌, ap, sym, subst, not, Bool, true, false, refl, List, [], ◌∷◌, length, drop, Some, None, Option, get_or, ltb-true, arith}
 use Rattle.std.specs.Prelude.{IsTrue, if◌then◌else◌}
-use Rattle.std.specs.Option.{option_map, option_map_or}
+use Rattle.std.specs.Option.{option_map_or}
 use Rattle.std.specs.List.{list_any, list_all, find}
 use Rattle.std.proofs.lemmas.Bool.{and_parts}
 use Rattle.prod_model.specs.declared.model.Model.{Model}
@@ -13,7 +13,7 @@ use Rattle.state_space.specs.Made.{MadeInstance}
 use Rattle.state_space.specs.State.{State, IsState}
 use Rattle.state_space.specs.Generation.{PortOf, is_open, has_no_ports, open_port_or, first_open_from}
 use Rattle.partial_state.specs.declared.openings.Opening.{Opening}
-use Rattle.partial_state.specs.declared.openings.Opening.TheVariants.{Here, Later, Unsettled}
+use Rattle.partial_state.specs.declared.openings.Opening.TheVariants.{Here, Later}
 use Rattle.partial_state.specs.steps.Openings.{sole_of, first_opening, opened_or}
 use Rattle.partial_state.proofs.SoleKinds.{sole_is}
 

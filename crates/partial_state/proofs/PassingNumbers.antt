@@ -1,6 +1,6 @@
 -- The numbers of a range that pass a test, where the test is that of another or of one number less.
-use Rattle.std.proofs.Common.{◌≡◌, ℕ, zero, suc, ◌+◌, ◌<◌, ◌≤◌, ◌∙◌, ap, ap₂, sym, ◌&&◌, ◌==◌, not, nat_lt, Bool, true, false, cond, refl, inl, inr, List, [], ◌∷◌, Option, Some, None, arith, lt-ltb, le-ltb, eq-eqb, ne_eqb}
-use Rattle.std.specs.Prelude.{◌⊎◌, IsTrue}
+use Rattle.std.proofs.Common.{◌≡◌, ℕ, zero, suc, ◌+◌, ◌<◌, ◌≤◌, ◌∙◌, ap, ap₂, sym, ◌&&◌, ◌==◌, not, nat_lt, Bool, true, false, cond, refl, inl, inr, List, [], ◌∷◌, Option, None, arith, lt-ltb, le-ltb, eq-eqb, ne_eqb}
+use Rattle.std.specs.Prelude.{◌⊎◌}
 use Rattle.std.specs.List.{filter, filter_map, cons_option, range_with_len}
 use Rattle.std.proofs.lemmas.Bool.{cases_eq, false≢true}
 

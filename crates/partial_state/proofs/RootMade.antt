@@ -1,5 +1,5 @@
 -- The parts of the first state.
-use Rattle.std.proofs.Common.{◌≡◌, ◌≢◌, ℕ, ◌<◌, ◌≤◌, ◌^◌, ◌∙◌, ap, ap₂, sym, ◌&&◌, ◌==◌, Bool, true, false, cond, refl, List, [], ◌∷◌, length, ltb-true}
+use Rattle.std.proofs.Common.{◌≡◌, ◌≢◌, ℕ, ◌<◌, ◌^◌, ◌∙◌, ap, ap₂, sym, ◌&&◌, ◌==◌, Bool, true, false, cond, refl, List, [], ◌∷◌, length, ltb-true}
 use Rattle.std.specs.Prelude.{IsTrue}
 use Rattle.std.specs.List.{list_all, range_with_len}
 use Rattle.std.proofs.lemmas.Bool.{and_parts, and_from, false≢true}

@@ -1,15 +1,11 @@
 -- Sets of one type, and sets with one type less, as masks.
-use Rattle.std.proofs.Common.{◌≡◌, ◌≢◌, ℕ, ◌-◌, ◌<◌, ◌≤◌, ◌*◌, ◌%◌, ◌^◌, ◌∙◌, ap, sym, subst, ◌||◌, ◌==◌, not, Bool, true, false, cond, refl, inl, inr, List, [], ◌∷◌, Some, None, Option, bit_and, arith, ltb-true}
-use Rattle.std.specs.Prelude.{◌⊎◌, IsTrue, nat_lt}
+use Rattle.std.proofs.Common.{◌≡◌, ◌≢◌, ℕ, ◌<◌, ◌*◌, ◌%◌, ◌^◌, ◌∙◌, ap, sym, ◌||◌, ◌==◌, Bool, true, false, cond, refl, inl, inr, List, [], ◌∷◌, Some, None, Option, arith}
+use Rattle.std.specs.Prelude.{◌⊎◌, IsTrue}
 use Rattle.std.specs.Int.{bit_at, trailing_zeros, w128}
-use Rattle.std.specs.List.{list_any, list_all}
-use Rattle.std.proofs.lemmas.Bool.{and_parts, or_cases, or_left, or_right, cases_eq, false≢true, false_from_ne_true, eq-eqb, eqb-true, ne_eqb}
+use Rattle.std.proofs.lemmas.Bool.{and_parts, or_cases, or_left, cases_eq, false≢true, eq-eqb, eqb-true, ne_eqb}
 use Rattle.std.proofs.lemmas.Nat.{one_shl}
-use Rattle.std.proofs.lemmas.Nat.Bits.{bit_at-pow_same, bit_at-pow_other, bit_at-trailing_zeros, bit_at-zero, same_from_bits}
-use Rattle.base_laws.proofs.Masks128.{bit_at_without}
-use Rattle.domain_store.specs.Words.{has_word}
+use Rattle.std.proofs.lemmas.Nat.Bits.{bit_at-pow_same, bit_at-pow_other, bit_at-trailing_zeros, same_from_bits}
 use Rattle.state_space.specs.Sets.{has_number}
-use Rattle.state_space.proofs.PortLaws.{all_has}
 use Rattle.state_space.proofs.WholeLaws.{same_members}
 use Rattle.partial_state.specs.Masks.{kinds_of}
 use Rattle.partial_state.specs.steps.Openings.{sole_of}

@@ -1,5 +1,5 @@
 -- The whole domain of a declaration.
-use Rattle.std.proofs.Common.{◌≡◌, ℕ, ◌≤◌, ◌≤ℤ◌, ℤ, ◌&&◌, List, length, arith}
+use Rattle.std.proofs.Common.{ℕ, ◌≤◌, ◌≤ℤ◌, ℤ, ◌&&◌, List, length, arith}
 use Rattle.std.specs.Prelude.{IsTrue, int_le}
 use Rattle.std.proofs.lemmas.Int.{ints}
 use Rattle.std.proofs.lemmas.Bool.{and_parts}

@@ -1,5 +1,5 @@
 -- The parts of a whole state: one type, one value and settled links.
-use Rattle.std.proofs.Common.{◌≡◌, ◌≢◌, ℕ, suc, ◌+◌, ◌<◌, ◌≤◌, ◌^◌, ◌∙◌, ap, ap₂, sym, not, ◌&&◌, ◌||◌, ◌==◌, nat_lt, Bool, true, false, refl, inl, inr, List, [], ◌∷◌, length, map, ℤ, pos, ◌+ℤ◌, ◌≤ℤ◌, ◌<ℤ◌, Some, None, w64, to_z, of_z, SFits, arith}
+use Rattle.std.proofs.Common.{◌≡◌, ◌≢◌, ℕ, suc, ◌<◌, ◌≤◌, ◌^◌, ◌∙◌, ap, ap₂, sym, not, ◌&&◌, ◌||◌, ◌==◌, nat_lt, Bool, true, false, refl, inl, inr, List, [], ◌∷◌, length, map, ℤ, pos, ◌+ℤ◌, ◌≤ℤ◌, ◌<ℤ◌, Some, None, w64, to_z, of_z, SFits, arith}
 use Rattle.std.specs.Prelude.{◌↔◌, IsTrue, int_le, int_lt, slice_index_or}
 use Rattle.std.specs.declared.option.Option.{Option}
 use Rattle.std.specs.Option.{option_map_or}

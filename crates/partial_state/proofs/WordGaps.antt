@@ -1,5 +1,5 @@
 -- The first gap of a set of words from a number on.
-use Rattle.std.proofs.Common.{◌≡◌, ℕ, ◌<◌, ◌≤◌, ◌∙◌, ap, sym, Bool, true, false, inl, inr, ℤ, pos, negsuc, ◌≤ℤ◌, ◌<ℤ◌, Some, None, arith}
+use Rattle.std.proofs.Common.{◌≡◌, ℕ, ◌<◌, ◌≤◌, ◌∙◌, ap, sym, Bool, false, inl, inr, ℤ, pos, negsuc, ◌≤ℤ◌, ◌<ℤ◌, Some, None, arith}
 use Rattle.std.specs.Prelude.{IsTrue}
 use Rattle.std.proofs.lemmas.Int.{ints}
 use Rattle.std.proofs.lemmas.Bool.{cases_lt, false≢true}

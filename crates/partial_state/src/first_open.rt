@@ -18,7 +18,8 @@ impl Partial {
     /// search. It takes no memory, and a few steps for each port before it.
     pub fn first_open(&self, problem: &Problem) -> Option<(u32, u32)>
         requires { IsState problem.now self.now }
-        ensures { result ≡ option_map (λ at. (at.instance, at.port)) (first_open problem.now self.now) }
+        ensures { result
+            ≡ option_map (λ at. (at.instance, at.port)) (first_open problem.now self.now) }
     {
         first_of(self.made.as_slice(), problem)
     }
@@ -28,7 +29,8 @@ impl Partial {
 fn first_of(rows: &[InstanceRow], problem: &Problem) -> Option<(u32, u32)>
     requires few { length rows.now ≤ 256 }
     requires leaves { IsTrue (list_all (λ x. list_all (is_leaf problem.now) x.kinds) rows.now) }
-    ensures { result ≡ option_map (λ at. (at.instance, at.port)) (first_open_from problem.now 0 rows.now) }
+    ensures { result
+        ≡ option_map (λ at. (at.instance, at.port)) (first_open_from problem.now 0 rows.now) }
 {
     for (i, row) in rows.iter().enumerate() {
         match row.opening(problem) {

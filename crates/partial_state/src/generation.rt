@@ -39,7 +39,8 @@ impl Partial {
         requires state { IsState problem.now self.now }
         requires room { IsTrue (can_generate problem.now self.now) }
         requires first { IsFirst problem.now self.now i port }
-        ensures { IfOk result (λ x. x ≡ instance_for problem.now self.now (port_of_instance i port)) }
+        ensures { IfOk result (λ x.
+            x ≡ instance_for problem.now self.now (port_of_instance i port)) }
     {
         let _model = problem.model();
         let kinds = problem.leaves_under(self.target(problem, i, port));
@@ -87,7 +88,8 @@ impl Partial {
         requires room { number_made self.old < 256 }
         requires has { IsSome (port_at self.old i port) }
         requires open { ForSome (port_at self.old i port) (λ q. 1 ≤ q.fresh_high) }
-        ensures made { OnOk result (self.new ≡ extended_for (port_of_instance i port) row self.old) }
+        ensures made { OnOk result
+            (self.new ≡ extended_for (port_of_instance i port) row self.old) }
         ensures unchanged { OnErr result (self.new ≡ self.old) }
     {
         let next = self.made();

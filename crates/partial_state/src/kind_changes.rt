@@ -15,9 +15,9 @@ use std::alloc::AllocError;
 
 /// Changes of the possible types.
 impl Partial {
-    /// Leaves the possible types that are type `t` or under it, unless there is none, and logs those
-    /// that there were. A number that is no type has none under it. After `AllocError` nothing has
-    /// changed.
+    /// Leaves the possible types that are type `t` or under it, unless there is none, and logs
+    /// those that there were. A number that is no type has none under it. After `AllocError`
+    /// nothing has changed.
     pub(crate) fn change_kind(
         &mut self,
         problem: &Problem,

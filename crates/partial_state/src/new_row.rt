@@ -37,7 +37,8 @@ impl InstanceRow {
     ) -> Result<InstanceRow, AllocError>
         requires some { kinds ≢ 0 }
         requires leaves { IsTrue (list_all (is_leaf problem.now) (kinds_of kinds)) }
-        requires attribute_types { map kinds_of attribute_types.now ≡ attribute_types_of problem.now }
+        requires attribute_types { map kinds_of attribute_types.now
+            ≡ attribute_types_of problem.now }
         requires port_types { map kinds_of port_types.now ≡ port_types_of problem.now }
         requires few { made ≤ 256 }
         ensures { IfOk result
@@ -230,7 +231,8 @@ fn whole_ports(
 /// What a port may link, where each type of the mask has it.
 fn whole_port(problem: &Problem, types: u128, port: u32, made: InstanceSet) -> Option<MadePort>
     requires { (t : ℕ) → IsTrue (has_word types t) → IsSome (port_of problem.now t port) }
-    ensures { result ≡ whole_links (instances_of made) (ports_under problem.now (kinds_of types) port) }
+    ensures { result
+        ≡ whole_links (instances_of made) (ports_under problem.now (kinds_of types) port) }
 {
     if types == 0 {
         return None;

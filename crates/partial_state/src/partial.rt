@@ -80,7 +80,8 @@ impl Partial {
     /// The possible types of instance `i`, as a mask: bit t stands for the type of number t.
     pub fn kinds(&self, i: u32) -> u128
         requires { i < number_made self.now }
-        ensures { (t : ℕ) → bit_at result t ≡ (if has_number (kinds_at self.now i) t then 1 else 0) }
+        ensures { (t : ℕ) → bit_at result t
+            ≡ (if has_number (kinds_at self.now i) t then 1 else 0) }
     {
         self.made[i as usize].kinds()
     }
@@ -119,7 +120,8 @@ impl Partial {
         }
     }
 
-    /// The first value from `n` on that the attribute can't have although it can have a greater one.
+    /// The first value from `n` on that the attribute can't have although it can have a greater
+    /// one.
     pub fn gap_from(&self, i: u32, attr: u32, n: i64) -> Option<i64>
         requires { IsSome (domain_at self.now i attr) }
         ensures { ForSome (domain_at self.now i attr) (λ d. IsNextGap (has_value d) n result) }
@@ -190,7 +192,8 @@ impl Partial {
     /// Removes a value, unless it is the only one. After `AllocError` nothing has changed.
     pub fn remove(&mut self, i: u32, attr: u32, n: i64) -> Result<Change, AllocError>
         requires { IsSome (domain_at self.old i attr) }
-        ensures narrowed { IfOk result (λ r. NarrowsDomain i attr (λ v. not (int_eq v n)) r self.old self.new) }
+        ensures narrowed { IfOk result (λ r.
+            NarrowsDomain i attr (λ v. not (int_eq v n)) r self.old self.new) }
         ensures unchanged { OnErr result (self.new ≡ self.old) }
     {
         let change = self.made[i as usize].remove(attr, n)?;
@@ -282,8 +285,8 @@ impl Partial {
 
 /// Going back.
 impl Partial {
-    /// The state that stood when the log had the length, and the log cut to it. Old values are moved
-    /// back, in constant time each.
+    /// The state that stood when the log had the length, and the log cut to it. Old values are
+    /// moved back, in constant time each.
     pub fn undo(&mut self, log: &mut ChangeLog, len: u32)
         requires { len ≤ length log.old }
         ensures state { self.new ≡ undone (drop len log.old) self.old }
@@ -346,7 +349,8 @@ impl Partial {
 
     /// The last instance is no longer made.
     fn unmake(&mut self)
-        ensures { self.new ≡ record self.old { made = take (number_made self.old - 1) self.old.made } }
+        ensures { self.new
+            ≡ record self.old { made = take (number_made self.old - 1) self.old.made } }
     {
         let rest = self.made.len().saturating_sub(1);
         self.made.truncate(rest);

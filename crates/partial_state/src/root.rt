@@ -116,7 +116,8 @@ fn number_of_new_ports(problem: &Problem, t: u32) -> usize
 fn inherited_ports(problem: &Problem, t: u32) -> usize
     requires valid { IsValid problem.now }
     requires known { t < length problem.now.types }
-    ensures { result ≡ length (option_map_or (ports_of problem.now.types) (parent_of problem.now t) []) }
+    ensures { result
+        ≡ length (option_map_or (ports_of problem.now.types) (parent_of problem.now t) []) }
 {
     match problem.model().parent_of(t) {
         Some(parent) => problem.ports_of(parent).len(),

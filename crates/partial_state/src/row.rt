@@ -34,7 +34,11 @@ impl Model for InstanceRow {
 
     ghost Value = { MadeInstance };
 
-    ghost view = { λ x. record { kinds = x.kinds; domains = x.domains.items; ports = x.ports.items } };
+    ghost view = { λ x. record {
+      kinds = x.kinds;
+      domains = x.domains.items;
+      ports = x.ports.items;
+    } };
 }
 
 impl InstanceRow {
@@ -102,7 +106,8 @@ impl InstanceRow {
 
     /// Other values of an attribute. An id that the table lacks changes nothing.
     pub(crate) fn put_domain(&mut self, attr: u32, values: AttributeDomain)
-        ensures { self.new ≡ record self.old { domains = slice_set self.old.domains attr (Some values) } }
+        ensures { self.new
+            ≡ record self.old { domains = slice_set self.old.domains attr (Some values) } }
     {
         let at = attr as usize;
         if self.domains.len() <= at {
@@ -113,7 +118,8 @@ impl InstanceRow {
 
     /// Other links of a port. An id that the table lacks changes nothing.
     pub(crate) fn put_port(&mut self, port: u32, links: MadePort)
-        ensures { self.new ≡ record self.old { ports = slice_set self.old.ports port (Some links) } }
+        ensures { self.new
+            ≡ record self.old { ports = slice_set self.old.ports port (Some links) } }
     {
         let at = port as usize;
         if self.ports.len() <= at {
@@ -125,7 +131,8 @@ impl InstanceRow {
     /// Removes a value of an attribute. After `AllocError` nothing has changed.
     pub(crate) fn remove(&mut self, attr: u32, n: i64) -> Result<Change, AllocError>
         requires { IsSome (domain_of self.old attr) }
-        ensures narrowed { IfOk result (λ r. NarrowsAttribute attr (λ v. not (int_eq v n)) r self.old self.new) }
+        ensures narrowed { IfOk result (λ r.
+            NarrowsAttribute attr (λ v. not (int_eq v n)) r self.old self.new) }
         ensures unchanged { OnErr result (self.new ≡ self.old) }
     {
         let change = remove_from_slot(&mut self.domains[attr as usize], n)?;

@@ -46,7 +46,8 @@ impl Partial {
     /// What a narrowing by a cut would do.
     fn answer(&self, i: u32, attr: u32, cut: ValueCut) -> Change
         requires { IsSome (domain_at self.now i attr) }
-        ensures { ForSome (domain_at self.now i attr) (λ d. AnswersNarrowing (is_left cut) result d) }
+        ensures { ForSome (domain_at self.now i attr) (λ d.
+            AnswersNarrowing (is_left cut) result d) }
     {
         match self.domain(i, attr) {
             Some(values) => values.answer(cut),
@@ -63,7 +64,8 @@ impl Partial {
         log: &mut ChangeLog,
     ) -> Result<Change, AllocError>
         requires { IsSome (domain_at self.old i attr) }
-        ensures narrowed { IfOk result (λ r. NarrowsDomain i attr (is_left cut) r self.old self.new) }
+        ensures narrowed { IfOk result (λ r.
+            NarrowsDomain i attr (is_left cut) r self.old self.new) }
         ensures logs { OnOk result (Logs self.old self.new log.old log.new) }
         ensures unchanged { OnErr result (self.new ≡ self.old) }
         ensures logged { OnErr result (log.new ≡ log.old) }
@@ -82,7 +84,8 @@ impl Partial {
     /// Narrows the values of an attribute by a cut.
     fn cut(&mut self, i: u32, attr: u32, cut: ValueCut) -> Result<Change, AllocError>
         requires { IsSome (domain_at self.old i attr) }
-        ensures narrowed { IfOk result (λ r. NarrowsDomain i attr (is_left cut) r self.old self.new) }
+        ensures narrowed { IfOk result (λ r.
+            NarrowsDomain i attr (is_left cut) r self.old self.new) }
         ensures unchanged { OnErr result (self.new ≡ self.old) }
     {
         match cut {

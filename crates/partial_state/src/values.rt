@@ -91,7 +91,8 @@ impl AttributeDomain {
 
     /// Removes `n`. `AllocError` where memory runs out, and then nothing changes.
     pub(crate) fn remove(&mut self, n: i64) -> Result<Change, AllocError>
-        ensures narrowed { IfOk result (λ r. NarrowsInForm (λ v. not (int_eq v n)) r self.old self.new) }
+        ensures narrowed { IfOk result (λ r.
+            NarrowsInForm (λ v. not (int_eq v n)) r self.old self.new) }
         ensures unchanged { OnErr result (self.new ≡ self.old) }
     {
         remove(&mut self.domain, n)
@@ -170,7 +171,8 @@ fn at_least(domain: &mut Domain, n: i64) -> Change
 
 fn remove(domain: &mut Domain, n: i64) -> Result<Change, AllocError>
     requires { IsStored domain.old }
-    ensures narrowed { IfOk result (λ r. NarrowsStored (λ v. not (int_eq v n)) r domain.old domain.new) }
+    ensures narrowed { IfOk result (λ r.
+        NarrowsStored (λ v. not (int_eq v n)) r domain.old domain.new) }
     ensures unchanged { OnErr result (domain.new ≡ domain.old) }
 {
     match domain {

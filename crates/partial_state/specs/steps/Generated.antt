@@ -6,7 +6,7 @@ use Rattle.std.specs.List.{enumerate_from, range_with_len}
 use Rattle.prod_model.specs.declared.model.Model.{Model}
 use Rattle.prod_model.specs.declared.model.PortAt.{PortAt}
 use Rattle.prod_model.specs.Taxonomy.{port_of}
-use Rattle.state_space.specs.Ports.{PortState, made_elsewhere}
+use Rattle.state_space.specs.Ports.{made_elsewhere}
 use Rattle.state_space.specs.Made.{MadeInstance}
 use Rattle.state_space.specs.State.{State, number_made, kinds_at, leaves_under}
 use Rattle.state_space.specs.Root.{new_instance}

@@ -15,7 +15,8 @@ pub record ChangesKinds (i : ℕ) (test : ℕ → Bool) (result : Change) (old n
   pub logs : Logs old new log longer
   pub same : result ≢ Smaller → longer ≡ log
 
--- A domain is narrowed by a test, and its log brings it back. Unless it is smaller nothing is logged.
+-- A domain is narrowed by a test, and its log brings it back. Unless it is smaller nothing is
+-- logged.
 pub record ChangesDomain (i a : ℕ) (test : ℤ → Bool) (result : Change) (old new : State)
     (log longer : List OldValue) : Type 0 where
   pub narrows : NarrowsDomain i a test result old new

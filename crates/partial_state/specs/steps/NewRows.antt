@@ -1,5 +1,5 @@
 -- The domains of a new instance, as the code makes them.
-use Rattle.std.specs.Prelude.{ℕ, Bool, not, ◌==◌, ◌+◌, ◌&&◌, bit_and, slice_index, List, [], ◌∷◌, if◌then◌else◌, Some, None}
+use Rattle.std.specs.Prelude.{ℕ, Bool, not, ◌==◌, ◌+◌, ◌&&◌, bit_and, List, [], ◌∷◌, if◌then◌else◌, Some, None}
 use Rattle.std.specs.declared.option.Option.{Option}
 use Rattle.prod_model.specs.declared.model.Domain.{Domain}
 use Rattle.prod_model.specs.Valid.{has_ends, has_few_words}

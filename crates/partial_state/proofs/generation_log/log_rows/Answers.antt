@@ -1,4 +1,4 @@
-use Rattle.std.proofs.Common.{◌≡◌, ◌∙◌, take, arith, ℕ}
+use Rattle.std.proofs.Common.{take, arith, ℕ}
 use Rattle.std.specs.List.{flat_map, enumerate_from}
 use Rattle.state_space.specs.Made.{MadeInstance}
 use Rattle.partial_state.specs.steps.GenerationLog.{old_ports}

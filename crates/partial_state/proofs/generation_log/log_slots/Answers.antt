@@ -1,4 +1,4 @@
-use Rattle.std.proofs.Common.{◌≡◌, ◌∙◌, take, arith}
+use Rattle.std.proofs.Common.{◌∙◌, take, arith}
 use Rattle.std.specs.List.{flat_map, enumerate_from}
 use Rattle.state_space.specs.Undo.{old_port}
 use Rattle.partial_state.proofs.GenerationLogs.{also_on_error, with_entries, one_more, all_entries}

@@ -1,7 +1,6 @@
-use Rattle.std.proofs.Common.{◌≡◌, ◌∙◌, ap, sym, max, map, Some, None, arith}
+use Rattle.std.proofs.Common.{◌∙◌, ap, sym, max, map, arith}
 use Rattle.std.specs.List.{fold}
 use Rattle.std.specs.Option.{option_copied}
-use Rattle.prod_model.specs.Taxonomy.{port_of as port_at}
 use Rattle.state_space.specs.Root.{ports_under}
 use Rattle.partial_state.specs.Masks.{kinds_of}
 use Rattle.partial_state.proofs.KindLists.{kinds_next}

@@ -1,4 +1,4 @@
-use Rattle.std.proofs.Common.{◌≡◌, Some, None, rules, ◌∙◌, ap, length}
+use Rattle.std.proofs.Common.{◌≡◌, Some, None, rules, ap, length}
 use Rattle.prod_model.specs.Forest.{parent_of as parent_at}
 use Rattle.partial_state.proofs.NewRows.{parent_known, inherited_of_parent, nothing_inherited}
 use Rattle.partial_state.proofs.new_row.inherited_attributes.Goals as goal

@@ -1,4 +1,4 @@
-use Rattle.std.proofs.Common.{◌≡◌, ◌∙◌, ap, map, length, drop, arith}
+use Rattle.std.proofs.Common.{◌∙◌, ap, map, length, drop, arith}
 use Rattle.partial_state.proofs.NewRows.{attributes_few, inherited_few, new_attributes_behind, new_attributes_formed, rest_taken}
 use Rattle.partial_state.proofs.new_row.new_attributes.Goals as goal
 

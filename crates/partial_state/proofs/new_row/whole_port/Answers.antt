@@ -1,4 +1,4 @@
-use Rattle.std.proofs.Common.{◌≡◌, ◌∙◌, ap, sym, refl, Some, arith}
+use Rattle.std.proofs.Common.{◌∙◌, ap, refl, Some, arith}
 use Rattle.partial_state.proofs.NewPorts.{no_port, new_port, nothing_required}
 use Rattle.partial_state.proofs.new_row.whole_port.Goals as goal
 

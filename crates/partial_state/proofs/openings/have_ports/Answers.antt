@@ -1,5 +1,5 @@
-use Rattle.std.proofs.Common.{rules, ◌≡◌, ◌≢◌, Bool, true, false, arith}
-use Rattle.partial_state.proofs.KindSearches.{none_searched, least_known, one_has, fewer_left, one_searched, all_searched}
+use Rattle.std.proofs.Common.{rules, ◌≡◌, true, false}
+use Rattle.partial_state.proofs.KindSearches.{least_known, one_has, fewer_left, one_searched, all_searched}
 use Rattle.partial_state.proofs.openings.have_ports.Goals as goal
 
 -- the least type that is left is a type

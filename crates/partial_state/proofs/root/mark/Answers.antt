@@ -1,4 +1,4 @@
-use Rattle.std.proofs.Common.{◌≡◌, ◌∙◌, ◌==◌, ap, cond, refl, ℕ}
+use Rattle.std.proofs.Common.{◌∙◌, ◌==◌, ap, refl, ℕ}
 use Rattle.std.specs.Int.{bit_at}
 use Rattle.std.proofs.lemmas.List.{get_or_read}
 use Rattle.partial_state.proofs.MarkedTypes.{one_marked, set_if}

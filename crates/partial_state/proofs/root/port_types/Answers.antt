@@ -1,9 +1,9 @@
-use Rattle.std.proofs.Common.{◌≡◌, ◌∙◌, ap, length, replicate, subst, ℕ, arith}
+use Rattle.std.proofs.Common.{◌≡◌, ap, length, subst, ℕ, arith}
 use Rattle.prod_model.proofs.ValidModels.{few_types}
 use Rattle.config_value.specs.Literals.{has_port}
 use Rattle.state_space.specs.State.{first_ports}
 use Rattle.partial_state.specs.steps.Marks.{AreMarked}
-use Rattle.partial_state.proofs.MarkedTypes.{none_marked, all_marked}
+use Rattle.partial_state.proofs.MarkedTypes.{all_marked}
 use Rattle.partial_state.proofs.root.port_types.Goals as goal
 
 -- there are at most 128 types

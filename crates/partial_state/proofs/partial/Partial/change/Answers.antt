@@ -1,17 +1,15 @@
 -- Each literal is a narrowing of what it speaks of, which is there where the literal fits.
 use mir.Val.{SFits}
-use Rattle.std.proofs.Common.{w64, rules, ◌≡◌, refl, subst, not, ℤ, ltb-true, ◌<◌, ◌≤◌, inl, inr, arith}
+use Rattle.std.proofs.Common.{w64, rules, refl, subst, not, ltb-true, ◌<◌, ◌≤◌, inl, inr, arith}
 use Rattle.std.specs.Prelude.{IsTrue, int_le, nat_le, nat_lt}
 use Rattle.std.specs.Ordering.{int_eq}
 use Rattle.std.proofs.lemmas.Int.{to_z-of_z}
 use Rattle.std.proofs.lemmas.Bool.{and_parts, false≢true}
 use Rattle.prod_model.specs.Forest.{is_a}
-use Rattle.config_value.specs.declared.literal.Literal.{Literal}
 use Rattle.config_value.specs.declared.literal.Literal.TheVariants as literal
 use Rattle.state_space.specs.Sets.{has_number}
 use Rattle.state_space.specs.State.{number_made}
 use Rattle.state_space.specs.Entails.{fits, all_have_attribute, all_have_port}
-use Rattle.state_space.specs.Generation.{can_generate}
 use Rattle.partial_state.proofs.LiteralChanges.{has_domain, has_links, kinds_outcome, domain_outcome, port_outcome, made_outcome}
 use Rattle.partial_state.proofs.partial.Partial.change.Goals as goal
 

@@ -1,4 +1,4 @@
-use Rattle.std.proofs.Common.{◌≡◌, ◌∙◌, ap, take}
+use Rattle.std.proofs.Common.{◌∙◌, ap, take}
 use Rattle.partial_state.proofs.GenerationLogs.{cut_back}
 use Rattle.partial_state.proofs.partial.Partial.generate_logged.Goals as goal
 

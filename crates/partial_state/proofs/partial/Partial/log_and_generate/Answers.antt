@@ -1,4 +1,4 @@
-use Rattle.std.proofs.Common.{◌≡◌, ◌∙◌, ◌∷◌, ◌++◌, [], ap, append_assoc}
+use Rattle.std.proofs.Common.{◌∙◌, ◌∷◌, ◌++◌, [], ap, append_assoc}
 use Rattle.state_space.specs.Undo.{Made}
 use Rattle.partial_state.specs.steps.GenerationLog.{all_old_ports}
 use Rattle.partial_state.proofs.GenerationLogs.{also_on_error, with_entries}

@@ -1,5 +1,4 @@
-use Rattle.std.proofs.Common.{◌≡◌, ◌∙◌, ap, sym, subst, List}
-use Rattle.state_space.specs.Made.{MadeInstance}
+use Rattle.std.proofs.Common.{◌≡◌, ◌∙◌, ap, sym, subst}
 use Rattle.state_space.specs.State.{State}
 use Rattle.partial_state.specs.steps.GenerationLog.{HaveFewPorts}
 use Rattle.partial_state.proofs.GenerationLogs.{few_ports}

@@ -1,4 +1,4 @@
-use Rattle.std.proofs.Common.{◌≡◌, ◌∙◌, ◌++◌, ◌∷◌, [], ap, sym, length, Some, arith, length-append}
+use Rattle.std.proofs.Common.{◌≡◌, ◌∙◌, ◌∷◌, [], ap, sym, length, Some, arith, length-append}
 use Rattle.state_space.specs.Ports.{made_here}
 use Rattle.state_space.specs.State.{State, number_made, port_at}
 use Rattle.partial_state.specs.contracts.partial.Partial.{the_view}

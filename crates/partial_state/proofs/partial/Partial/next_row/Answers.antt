@@ -1,4 +1,4 @@
-use Rattle.std.proofs.Common.{rules, ◌≡◌, ◌∙◌, ◌<◌, ◌+◌, ◌^◌, ap, ap₂, sym, subst, map, length, arith}
+use Rattle.std.proofs.Common.{rules, ◌∙◌, ◌<◌, ◌+◌, ◌^◌, ap, sym, subst, map, length, arith}
 use Rattle.std.specs.Prelude.{IsTrue}
 use Rattle.std.specs.List.{list_all, range_with_len}
 use Rattle.prod_model.specs.Forest.{is_leaf}

@@ -1,4 +1,4 @@
-use Rattle.std.proofs.Common.{◌≡◌, ◌<◌, ◌∙◌, ◌∷◌, ◌++◌, ◌&&◌, [], length, ap, sym, subst, map, ℕ, arith}
+use Rattle.std.proofs.Common.{◌<◌, ◌∙◌, ◌∷◌, ◌++◌, ◌&&◌, [], length, ap, sym, subst, map, ℕ, arith}
 use Rattle.prod_model.specs.Forest.{is_a, is_leaf}
 use Rattle.prod_model.specs.TypeMasks.{IsMask}
 use Rattle.state_space.specs.State.{IsState}

@@ -1,4 +1,4 @@
-use Rattle.std.proofs.Common.{◌≡◌, ◌∙◌, ap, sym, Some}
+use Rattle.std.proofs.Common.{◌∙◌, ap, sym}
 use Rattle.state_space.specs.Made.{MadeInstance}
 use Rattle.partial_state.specs.steps.Openings.{sole_of, first_opening}
 use Rattle.partial_state.proofs.OpenPorts.{sole_known, one_type}
