@@ -1,7 +1,7 @@
 //! A configuration, seen as the list of its instances.
-ghost use Rattle.std.specs.Prelude.{◌≡◌, ◌<◌, length, slice_get, IfOk};
+ghost use Rattle.std.specs.Prelude.{◌≡◌, ◌↔◌, ◌<◌, length, slice_get, IsTrue, IfOk};
 
-use crate::{key, turn};
+use crate::{key, same, turn};
 use prod_model::Items;
 use std::alloc::{AllocError, Global};
 use std::cmp::Ordering;
@@ -89,6 +89,13 @@ impl Configuration {
     {
         let instances = copy_instances(alloc, self.instances.as_slice())?;
         Ok(Configuration { instances })
+    }
+
+    /// Whether both have the same instances, in order. It takes no memory.
+    pub fn same(&self, other: &Configuration) -> bool
+        ensures { IsTrue result ↔ (self.now ≡ other.now) }
+    {
+        same::same_instances(self.instances.as_slice(), other.instances.as_slice())
     }
 
     /// Compares the keys of two configurations number by number, whatever their shapes. A proper

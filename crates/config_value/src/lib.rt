@@ -7,6 +7,7 @@ mod key;
 pub mod laws;
 mod literal;
 mod relation;
+mod same;
 mod turn;
 
 pub use configuration::{Configuration, Instance};

@@ -151,6 +151,7 @@ fn copies_all_of_it(rt: HostRuntime) -> Result<(), Fail> {
     let copy = c.copy(rt.alloc())?;
     assert_eq!(rt; copy.len(), 2);
     assert!(rt; copy.key_cmp(&c) == Ordering::Equal);
+    assert!(rt; copy.same(&c));
     let second = copy.get(1);
     assert_eq!(rt; second.kind, 5);
     assert_eq!(rt; second.links.len(), 1);
