@@ -1,7 +1,7 @@
 //! What a search is asked for.
 ghost use Rattle.std.specs.Prelude.{◌≡◌, ◌↔◌, IsTrue, IfOk};
 
-use config_value::{Configuration, Instance};
+use config_value::Configuration;
 use prod_model::{Expr, Items};
 use std::alloc::{AllocError, Global};
 
@@ -24,7 +24,7 @@ impl Goal {
         ensures { IsTrue result ↔ (self.now ≡ other.now) }
     {
         self.any == other.any
-            && self.keep.as_slice() == other.keep.as_slice()
+            && same_keep(self.keep.as_slice(), other.keep.as_slice())
             && same_after(&self.after, &other.after)
             && same_extra(self.extra.as_slice(), other.extra.as_slice())
     }
@@ -64,43 +64,28 @@ fn copy_extra(alloc: Global, extra: &[Expr]) -> Result<Items<Expr>, AllocError>
     Ok(copies)
 }
 
-fn same_after(a: &Option<Configuration>, b: &Option<Configuration>) -> bool
-    ensures { IsTrue result ↔ (a.now ≡ b.now) }
-{
-    match (a, b) {
-        (Some(c), Some(d)) => same_configuration(c, d),
-        (None, None) => true,
-        _ => false,
-    }
-}
-
-/// Whether the two have the same instances.
-fn same_configuration(c: &Configuration, d: &Configuration) -> bool
-    ensures { IsTrue result ↔ (c.now ≡ d.now) }
-{
-    c.len() == d.len() && (0..c.len() as u32).all(|i| same_instance(c.get(i), d.get(i)))
-}
-
-fn same_instance(x: &Instance, y: &Instance) -> bool
-    ensures { IsTrue result ↔ (x.now ≡ y.now) }
-{
-    x.kind == y.kind
-        && x.values.as_slice() == y.values.as_slice()
-        && same_links(x.links.as_slice(), y.links.as_slice())
-}
-
-fn same_links(a: &[Items<u32>], b: &[Items<u32>]) -> bool
+fn same_keep(a: &[bool], b: &[bool]) -> bool
     ensures { IsTrue result ↔ (a.now ≡ b.now) }
 {
     if a.len() != b.len() {
         return false;
     }
     for k in 0..a.len() {
-        if a[k].as_slice() != b[k].as_slice() {
+        if a[k] != b[k] {
             return false;
         }
     }
     true
+}
+
+fn same_after(a: &Option<Configuration>, b: &Option<Configuration>) -> bool
+    ensures { IsTrue result ↔ (a.now ≡ b.now) }
+{
+    match (a, b) {
+        (Some(c), Some(d)) => c.same(d),
+        (None, None) => true,
+        _ => false,
+    }
 }
 
 fn same_extra(a: &[Expr], b: &[Expr]) -> bool
