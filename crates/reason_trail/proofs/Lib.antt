@@ -1,0 +1,3 @@
+pub mod BestLaws
+pub mod JoinedLaws
+pub mod AssumedLaws

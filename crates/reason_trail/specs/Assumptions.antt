@@ -1,17 +1,19 @@
 -- What a trail rests on: what was assumed, and what its reasons ask for.
-use Rattle.std.specs.Prelude.{ℕ, Bool, false, IsTrue, Option, None, Some, List, map}
-use Rattle.std.specs.List.{list_all, list_any, filter_map}
+use Rattle.std.specs.Prelude.{◌≡◌, ℕ, Bool, false, IsTrue, IsFalse, Option, None, Some, List}
+use Rattle.std.specs.List.{list_any, filter_map}
 use Rattle.base_laws.specs.Places.{IsAt}
 use Rattle.config_value.specs.declared.configuration.Instance.{Instance}
 use Rattle.config_value.specs.declared.literal.Literal.{Literal}
 use Rattle.config_value.specs.Satisfies.{satisfies}
-use Rattle.literal_book.specs.Nogoods.{meets_asked, has_literals}
+use Rattle.literal_book.specs.Nogoods.{asks_for, has_literals, IsSound}
 use Rattle.state_space.specs.Covers.{Covers}
+use Rattle.state_space.specs.Described.{entails_all}
 use Rattle.reason_trail.specs.declared.entry.Entry.{Entry}
+use Rattle.reason_trail.specs.declared.reason.Reason.{Reason}
 use Rattle.reason_trail.specs.declared.reason.Why.{Why}
 use Rattle.reason_trail.specs.declared.reason.Why.TheVariants.{Assumed, Written, Here}
 use Rattle.reason_trail.specs.Jobs.{Task}
-use Rattle.reason_trail.specs.Reasons.{IsSubject}
+use Rattle.reason_trail.specs.Reasons.{IsSubject, SupportsFailure}
 use Rattle.reason_trail.specs.Trails.{Trace, Stage, IsTrail}
 
 -- the literal, where it was assumed
@@ -36,6 +38,17 @@ names_cut (Here requests cut) = cut
 abbrev pub some_names_cut : Trace → Bool
 some_names_cut t = list_any (λ g. names_cut g.entry.why) t.stages
 
+-- the requests that why a literal holds asks for: none, where it was assumed
+abbrev pub asked_by : Why → ℕ
+asked_by Assumed = 0
+asked_by (Written r) = r.requests
+asked_by (Here requests cut) = requests
+
+-- each request that the one mask asks for, the other asks for
+abbrev pub AreAmong : ℕ → ℕ → Type 0
+AreAmong asked requests =
+    (k : ℕ) → IsTrue (asks_for asked k) → IsTrue (asks_for requests k)
+
 -- the configuration is one that the reason speaks of; what was assumed speaks of all
 abbrev pub IsSubjectOf : Task → List Instance → Why → Type 0
 IsSubjectOf j c Assumed = Unit {0}
@@ -50,3 +63,13 @@ AssumedIsCovered =
     → IsTrue (has_literals t.job.model c (assumed t))
     → ((n : ℕ) (g : Stage) → IsAt t.stages n g → IsSubjectOf t.job c g.entry.why)
     → Covers t.job.model t.state c
+
+-- So the assumed literals alone make a sound nogood, of all requests that the reasons ask for, where
+-- neither the reason of a failure nor one on the trail names the cut.
+abbrev pub AssumedIsNogood : Type 0
+AssumedIsNogood =
+    (t : Trace) (r : Reason) (requests : ℕ) → IsTrail t → IsFalse r.cut → some_names_cut t ≡ false
+    → SupportsFailure t.job None r → entails_all t.job.model t.state r.literals
+    → AreAmong r.requests requests
+    → ((n : ℕ) (g : Stage) → IsAt t.stages n g → AreAmong (asked_by g.entry.why) requests)
+    → IsSound t.job.model t.job.order (record { requests = requests; literals = assumed t })

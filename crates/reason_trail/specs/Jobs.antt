@@ -1,5 +1,5 @@
 -- Jobs, and the configurations that are wanted of them.
-use Rattle.std.specs.Prelude.{◌≡◌, ◌≢◌, ◌⊎◌, Bool, true, false, not, ◌&&◌, IsTrue, IsFalse, Option, None, Some, IfSome, List, [], length, ◌↔◌}
+use Rattle.std.specs.Prelude.{◌≡◌, ◌≢◌, ◌⊎◌, Bool, true, not, ◌&&◌, IsTrue, IsFalse, Option, None, Some, IfSome, List, [], length, ◌↔◌}
 use Rattle.std.specs.List.{list_all}
 use Rattle.prod_model.specs.First.{IsFirst}
 use Rattle.prod_model.specs.declared.model.Model.{Model}

@@ -1,6 +1,5 @@
 -- Reasons: what they speak of, and what they support.
 use Rattle.std.specs.Prelude.{ℕ, Bool, IsTrue, Option, None, List}
-use Rattle.std.specs.List.{list_all}
 use Rattle.config_value.specs.declared.configuration.Instance.{Instance}
 use Rattle.config_value.specs.declared.literal.Literal.{Literal}
 use Rattle.config_value.specs.Satisfies.{satisfies}

@@ -1,0 +1,6 @@
+-- It is the lemma of its name.
+use Rattle.reason_trail.proofs.AssumedLaws.{assumed_is_covered as law}
+use Rattle.reason_trail.proofs.laws.assumed_is_covered.Goals as goal
+
+pub returns : goal.returns
+returns c = law
