@@ -55,8 +55,8 @@ IsSubjectOf j c Assumed = Unit {0}
 IsSubjectOf j c (Written r) = IsSubject j None r.requests r.cut c
 IsSubjectOf j c (Here requests cut) = IsSubject j None requests cut c
 
--- A configuration that satisfies the model, has what was assumed, and is one that each reason speaks
--- of, is covered by the state of the trail.
+-- A configuration that satisfies the model, has what was assumed, and is one that each reason
+-- speaks of, is covered by the state of the trail.
 abbrev pub AssumedIsCovered : Type 0
 AssumedIsCovered =
     (t : Trace) (c : List Instance) → IsTrail t → IsTrue (satisfies t.job.model c)
@@ -64,8 +64,8 @@ AssumedIsCovered =
     → ((n : ℕ) (g : Stage) → IsAt t.stages n g → IsSubjectOf t.job c g.entry.why)
     → Covers t.job.model t.state c
 
--- So the assumed literals alone make a sound nogood, of all requests that the reasons ask for, where
--- neither the reason of a failure nor one on the trail names the cut.
+-- So the assumed literals alone make a sound nogood, of all requests that the reasons ask for,
+-- where neither the reason of a failure nor one on the trail names the cut.
 abbrev pub AssumedIsNogood : Type 0
 AssumedIsNogood =
     (t : Trace) (r : Reason) (requests : ℕ) → IsTrail t → IsFalse r.cut → some_names_cut t ≡ false

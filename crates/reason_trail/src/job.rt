@@ -28,7 +28,8 @@ impl Model for Job {
 
     ghost view = { λ j. record { model = j.problem; order = j.order; goal = j.goal } };
 
-    ghost invariant = { λ j. IsTask (record { model = j.problem; order = j.order; goal = j.goal }) };
+    ghost invariant = { λ j.
+        IsTask (record { model = j.problem; order = j.order; goal = j.goal }) };
 }
 
 impl Job {

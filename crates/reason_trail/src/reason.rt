@@ -21,8 +21,8 @@ pub enum Why {
     Assumed,
     /// For a reason that is written out.
     Written(Reason),
-    /// Because of all that the state said of its instances, with these requests and this mark of the
-    /// cut. What that is can be asked for later, at the length that the trail had.
+    /// Because of all that the state said of its instances, with these requests and this mark of
+    /// the cut. What that is can be asked for later, at the length that the trail had.
     Here { requests: u64, cut: bool },
 }
 
