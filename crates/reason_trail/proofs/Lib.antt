@@ -1,3 +1,6 @@
 pub mod BestLaws
 pub mod JoinedLaws
 pub mod AssumedLaws
+pub mod Trails
+pub mod TrailMarks
+pub mod TrailPushes

@@ -1,11 +1,11 @@
 -- Trails: the states that were passed on the way down, each with the literal that led on from it,
 -- and why that literal holds.
-use Rattle.std.specs.Prelude.{◌≡◌, ◌≢◌, ◌≤◌, ◌<◌, ℕ, suc, IsTrue, Some, List, [], ◌∷◌, ◌++◌, length, take, slice_get}
+use Rattle.std.specs.Prelude.{◌≡◌, ◌≢◌, ◌≤◌, ℕ, suc, IsTrue, List, [], ◌∷◌, ◌++◌, length, take, slice_get}
 use Rattle.std.specs.Option.{option_map_or}
 use Rattle.base_laws.specs.Places.{IsAt}
 use Rattle.config_value.specs.declared.literal.Literal.{Literal}
 use Rattle.domain_store.specs.declared.change.Change.{Change}
-use Rattle.domain_store.specs.declared.change.Change.TheVariants.{Same, Smaller, Empty}
+use Rattle.domain_store.specs.declared.change.Change.TheVariants.{Smaller, Empty}
 use Rattle.state_space.specs.State.{State, IsState}
 use Rattle.state_space.specs.Entails.{entails, fits}
 use Rattle.state_space.specs.Changes.{ChangesBy}

@@ -1,5 +1,5 @@
 //! The trail of a search.
-ghost use Rattle.std.specs.Prelude.{◌≡◌, ◌<◌, ◌≤◌, ℕ, IsTrue, IfOk, OnErr, None, length};
+ghost use Rattle.std.specs.Prelude.{◌≡◌, ◌<◌, ◌≤◌, ◌^◌, ◌++◌, ◌∷◌, [], ℕ, IsTrue, IfOk, OnOk, OnErr, None, length};
 ghost use Rattle.base_laws.specs.Places.{IsAt};
 ghost use Rattle.state_space.specs.State.{IsState};
 ghost use Rattle.state_space.specs.Entails.{entails as entails_of, fits as fits_of};
@@ -87,6 +87,7 @@ impl Trail {
     }
 
     /// The state that it has come to.
+    #[tactic(auto, using(crate::proofs::Trails::now_is_state, crate::proofs::Trails::now_is_wide))]
     pub fn state(&self) -> &Partial
         ensures state { result.now ≡ self.now.state }
         ensures problem { IsState self.now.job.model self.now.state }
@@ -206,15 +207,30 @@ impl Trail {
     {
         let mark = self.log.len();
         let change = self.state.change(self.job.problem(), &l, &mut self.log)?;
-        if change == Change::Smaller {
-            let entry = Entry { literal: l, why };
-            if self.entries.push(Marked { entry, mark }).is_err() {
-                self.state.undo(&mut self.log, mark);
-                return Err(AllocError);
-            }
+        if change != Change::Smaller {
+            return Ok(change);
+        }
+        let entry = Entry { literal: l, why };
+        if let Err(error) = add(&mut self.entries, Marked { entry, mark }) {
+            self.state.undo(&mut self.log, mark);
+            return Err(error);
         }
         Ok(change)
     }
+}
+
+/// Puts an entry at the end. `AllocError` where memory runs out or no more can be counted, and then
+/// they are as they were.
+fn add(entries: &mut Vec<Marked>, entry: Marked) -> Result<(), AllocError>
+    ensures added { OnOk result (entries.new.items ≡ entries.old.items ++ entry ∷ []) }
+    ensures few { OnOk result (length entries.new.items < 2 ^ 32) }
+    ensures unchanged { OnErr result (entries.new.items ≡ entries.old.items) }
+{
+    if entries.len() >= u32::MAX as usize {
+        return Err(AllocError);
+    }
+    entries.push(entry)?;
+    Ok(())
 }
 
 fn copy_entries(alloc: Global, entries: &[Marked]) -> Result<Vec<Marked>, AllocError>
