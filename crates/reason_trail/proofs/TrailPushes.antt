@@ -1,6 +1,7 @@
 -- A change of a kept trail: where less is left there is one entry more, and else it stays as it is.
 use Rattle.std.proofs.Common.{◌≡◌, ◌≢◌, ◌<◌, List, [], ◌∷◌, ◌++◌, length, length-append, refl, sym, ap, ap₂, ◌∙◌, subst, arith}
 use Rattle.std.specs.Prelude.{IsTrue, ◌^◌}
+use Rattle.std.proofs.lemmas.Option.{none-some}
 use Rattle.prod_model.specs.declared.model.Model.{Model}
 use Rattle.config_value.specs.declared.literal.Literal.{Literal}
 use Rattle.domain_store.specs.declared.change.Change.{Change}
@@ -8,15 +9,16 @@ use Rattle.domain_store.specs.declared.change.Change.TheVariants.{Smaller}
 use Rattle.state_space.specs.State.{State, IsState}
 use Rattle.state_space.specs.Entails.{fits}
 use Rattle.state_space.specs.Changes.{ChangesBy}
+use Rattle.state_space.specs.Root.{root}
 use Rattle.state_space.specs.Undo.{OldValue, undone, Logs}
 use Rattle.state_space.proofs.SearchLaws.{fitting_is_entailed}
 use Rattle.reason_trail.specs.declared.entry.Marked.{Marked}
 use Rattle.reason_trail.specs.declared.reason.Why.{Why}
-use Rattle.reason_trail.specs.Jobs.{Task}
+use Rattle.reason_trail.specs.Jobs.{Task, IsTask}
 use Rattle.reason_trail.specs.Reasons.{IsWhy}
 use Rattle.reason_trail.specs.Trails.{IsTrail, IsPushed, pushed}
 use Rattle.reason_trail.specs.steps.Marks.{trace_of, AreMarks, IsKept}
-use Rattle.reason_trail.proofs.Trails.{now_is_state, pushed_is_trail}
+use Rattle.reason_trail.proofs.Trails.{now_is_state, started_is_trail, pushed_is_trail}
 use Rattle.reason_trail.proofs.TrailMarks.{trace_of-pushed, pushed_are_marks}
 
 -- where the log is as it was, so is the state
@@ -73,3 +75,12 @@ module _ (j : Task) (first s after : State) (log later : List OldValue) (entries
         begins = kept.begins;
         few = few;
       }
+
+-- what is kept of a trail without entries is right
+pub started_kept : (j : Task) → IsTask j → IsKept j (root j.model) (root j.model) [] []
+started_kept j task = record {
+  trail = started_is_trail j task;
+  marks = record { within = λ n e at. absurd (none-some e at); ascending = λ n e f at next. absurd (none-some e at) };
+  begins = refl;
+  few = omega arith;
+}

@@ -188,13 +188,18 @@ impl Trail {
     pub fn copy(&self) -> Result<Trail, AllocError>
         ensures { IfOk result (λ t. t ≡ self.now) }
     {
+        let job = self.job.copy(self.alloc)?;
+        let root = self.root.copy()?;
+        let state = self.state.copy()?;
+        let log = self.log.copy(self.alloc)?;
+        let entries = copy_entries(self.alloc, self.entries.as_slice())?;
         Ok(Trail {
             alloc: self.alloc,
-            job: self.job.copy(self.alloc)?,
-            root: self.root.copy()?,
-            state: self.state.copy()?,
-            log: self.log.copy(self.alloc)?,
-            entries: copy_entries(self.alloc, self.entries.as_slice())?,
+            job,
+            root,
+            state,
+            log,
+            entries,
         })
     }
 
