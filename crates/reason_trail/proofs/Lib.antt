@@ -4,3 +4,8 @@ pub mod AssumedLaws
 pub mod Trails
 pub mod TrailMarks
 pub mod TrailPushes
+pub mod InTurn
+pub mod GapsInTurn
+pub mod GapsLeft
+pub mod Members
+pub mod Possible

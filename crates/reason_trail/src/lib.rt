@@ -1,6 +1,7 @@
 //! Jobs, reasons, and the trail of a search: the state that it has come to, and why.
 #![tactic(auto)]
 
+mod appended;
 mod description;
 mod entry;
 mod goal;
