@@ -51,8 +51,8 @@ impl Model for Trail {
 }
 
 impl Trail {
-    /// The trail of a job, at the root state of its problem, without entries. It keeps a copy of the
-    /// job. `AllocError` where memory runs out.
+    /// The trail of a job, at the root state of its problem, without entries. It keeps a copy of
+    /// the job. `AllocError` where memory runs out.
     pub fn start(alloc: Global, job: &Job) -> Result<Trail, AllocError>
         ensures { IfOk result (λ t. t ≡ started job.now) }
     {
@@ -122,14 +122,16 @@ impl Trail {
     pub fn entry(&self, n: u32) -> &Entry
         requires { n < length_of self.now }
         ensures entry { (g : Stage) → IsAt self.now.stages n g → g.entry ≡ result.now }
-        ensures because { IsWhy self.now.job (state_at self.now n) result.now.literal result.now.why }
+        ensures because {
+            IsWhy self.now.job (state_at self.now n) result.now.literal result.now.why }
     {
         &self.entries[n as usize].entry
     }
 
     /// Changes the state by a literal that fits, without a reason. Where less is left there is one
-    /// entry more; where nothing changes, or nothing would be left, the trail stays as it is. After
-    /// `AllocError` it is as it was.
+    /// entry more; where nothing changes, or nothing would be left, the trail stays as it is.
+    /// `AllocError` where memory runs out or no more entries can be counted, and then it is as it
+    /// was.
     pub fn assume(&mut self, l: Literal) -> Result<Change, AllocError>
         requires { IsTrue (fits_of self.old.job.model self.old.state l) }
         ensures pushed { IfOk result (λ change. IsPushed l Assumed change self.old self.new) }
@@ -138,8 +140,8 @@ impl Trail {
         self.push(l, Why::Assumed)
     }
 
-    /// Changes the state by a literal that fits, for a reason: it supports the literal, and the state
-    /// entails its literals. Else it is like `assume`.
+    /// Changes the state by a literal that fits, for a reason: it supports the literal, and the
+    /// state entails its literals. Else it is like `assume`.
     pub fn derive(&mut self, l: Literal, why: Reason) -> Result<Change, AllocError>
         requires fits { IsTrue (fits_of self.old.job.model self.old.state l) }
         requires supported { Supports self.old.job None why l }
@@ -150,10 +152,10 @@ impl Trail {
         self.push(l, Why::Written(why))
     }
 
-    /// Changes the state by a literal that fits, because of all that the state says of its instances
-    /// now: each configuration that it covers has the literal, of those that satisfy the model, meet
-    /// the requests, and, where `cut` is set, pass the cut. That reason is not written out, and costs
-    /// nothing. Else it is like `derive`.
+    /// Changes the state by a literal that fits, because of all that the state says of its
+    /// instances now: each configuration that it covers has the literal, of those that satisfy the
+    /// model, meet the requests, and, where `cut` is set, pass the cut. That reason is not written
+    /// out, and costs nothing. Else it is like `derive`.
     pub fn derive_here(
         &mut self,
         l: Literal,
@@ -216,6 +218,7 @@ impl Trail {
             return Ok(change);
         }
         let entry = Entry { literal: l, why };
+        // Where its entry finds no room the change is taken back.
         if let Err(error) = add(&mut self.entries, Marked { entry, mark }) {
             self.state.undo(&mut self.log, mark);
             return Err(error);

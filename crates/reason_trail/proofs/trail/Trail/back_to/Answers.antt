@@ -17,6 +17,7 @@ invariant_of-self c =
     rw (c.undo.ensures.state, c.undo.ensures.log, c.truncate.ensures.items)
     (cut_kept c.self.inside.log c.self.inside.entries.items c.self.invariant.marks c.args.len c.index.result.now at c.self.inside.job c.self.inside.root c.self.inside.state c.self.invariant)
 
+-- so it is the trail before the entry
 pub returns : goal.returns
 returns c =
     let within : c.args.len < length c.self.inside.entries.items =

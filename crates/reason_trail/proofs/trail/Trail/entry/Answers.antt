@@ -1,7 +1,6 @@
-use Rattle.std.proofs.Common.{◌<◌, length, subst, sym}
+use Rattle.std.proofs.Common.{◌<◌, subst, sym}
 use Rattle.reason_trail.specs.Reasons.{IsWhy}
 use Rattle.reason_trail.specs.Trails.{Trace, length_of, state_at}
-use Rattle.reason_trail.specs.steps.Marks.{trace_of}
 use Rattle.reason_trail.proofs.TrailMarks.{kept_because}
 use Rattle.reason_trail.proofs.trail.Trail.entry.Goals as goal
 

@@ -25,6 +25,7 @@ invariant_of-self-then-ne c =
     same_kept c.self.inside.job c.self.inside.root c.self.inside.state c.change.new.self c.self.inside.log c.change.new.log c.self.inside.entries.items c.self.invariant
     c.in_ok-change.ensures.logged (c.in_ok-change.ensures.same (λ e. other cc))
 
+-- so the trail is the one before
 pub returns-then-ne-clause-pushed : goal.returns-then-ne-clause-pushed
 returns-then-ne-clause-pushed c =
     let other : c.in_ok-change.change ≢ Smaller = search rules in
@@ -46,6 +47,7 @@ invariant_of-self-in_default c =
     c.in_ok-change.ensures.logged c.args.l c.args.why fit c.problem.result.now c.problem.ensures.problem changed because
     (rw (c.in_default.ensures.added, c.len-mark.ensures) at c.in_default.ensures.few))
 
+-- and that entry is the one that it was asked for
 pub returns-clause-pushed : goal.returns-clause-pushed
 returns-clause-pushed c =
     let smaller : c.in_ok-change.change ≡ Smaller = grind (arith, common_steps) in

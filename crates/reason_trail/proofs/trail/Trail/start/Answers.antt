@@ -8,6 +8,7 @@ invariant_of-result c =
     rw (c.new.ensures, c.new-2.ensures.items, c.in_ok-state.ensures, c.in_ok-root.ensures.root, c.problem.ensures.problem)
     (started_kept c.in_ok-job.job c.problem.ensures.fitting)
 
+-- so it is the trail of the job without entries
 pub returns : goal.returns
 returns c =
     rw (c.new.ensures, c.new-2.ensures.items, c.in_ok-state.ensures, c.in_ok-root.ensures.root, c.problem.ensures.problem, c.in_ok-job.ensures) refl
