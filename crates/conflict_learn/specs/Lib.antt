@@ -1,0 +1,3 @@
+pub mod Implied
+pub mod Learning
+pub mod steps
