@@ -14,13 +14,11 @@ mod generations;
 mod largest;
 #[cfg(test)]
 mod literals;
-#[cfg(test)]
-mod models;
+pub mod models;
 #[cfg(test)]
 mod nogoods;
 #[cfg(test)]
 mod ranks;
-#[cfg(test)]
-mod satisfying;
+pub mod satisfying;
 #[cfg(test)]
 mod verdicts;

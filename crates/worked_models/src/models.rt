@@ -1,18 +1,16 @@
 //! The models that the tests are about. Types and rules stand in the order of their numbers.
 
 /// One box of a width of 1 to 3.
-pub(crate) const BOXES: &str =
-    r#"{"format": "product-model 1", "root": "Box", "instances": 1, "types": [
+pub const BOXES: &str = r#"{"format": "product-model 1", "root": "Box", "instances": 1, "types": [
     {"name": "Box", "attributes": [{"name": "width", "range": [1, 3]}]}]}"#;
 
 /// A box of two colours, and one that has given up the first of them.
-pub(crate) const COLOURS: &str =
-    r#"{"format": "product-model 1", "root": "Box", "instances": 1, "types": [
+pub const COLOURS: &str = r#"{"format": "product-model 1", "root": "Box", "instances": 1, "types": [
     {"name": "Box", "attributes": [{"name": "colour", "words": ["red", "blue"]}]},
     {"name": "Blue", "parent": "Box", "attributes": [{"name": "colour", "words": ["blue"]}]}]}"#;
 
 /// A rack with two ports, each of which holds up to two cards, and three instances at most.
-pub(crate) const TWO_PORTS: &str =
+pub const TWO_PORTS: &str =
     r#"{"format": "product-model 1", "root": "Rack", "instances": 3, "types": [
     {"name": "Rack", "ports": [
         {"name": "left", "kind": "part", "target": "Card", "links": [0, 2]},
@@ -20,7 +18,7 @@ pub(crate) const TWO_PORTS: &str =
     {"name": "Card"}]}"#;
 
 /// The same with exactly one card.
-pub(crate) const ONE_CARD: &str =
+pub const ONE_CARD: &str =
     r#"{"format": "product-model 1", "root": "Rack", "instances": 3, "types": [
     {"name": "Rack", "ports": [
         {"name": "left", "kind": "part", "target": "Card", "links": [0, 2]},
@@ -29,7 +27,7 @@ pub(crate) const ONE_CARD: &str =
     "bounds": [{"type": "Card", "count": [1, 1]}]}"#;
 
 /// A rack of two cards, each of which uses one driver.
-pub(crate) const SHARED_DRIVERS: &str =
+pub const SHARED_DRIVERS: &str =
     r#"{"format": "product-model 1", "root": "Rack", "instances": 5, "types": [
     {"name": "Rack", "ports": [
         {"name": "cards", "kind": "part", "target": "Card", "links": [2, 2]}]},
@@ -38,20 +36,20 @@ pub(crate) const SHARED_DRIVERS: &str =
     {"name": "Driver"}]}"#;
 
 /// Nodes, each of which has one node as its part.
-pub(crate) const NODE_PARTS: &str =
+pub const NODE_PARTS: &str =
     r#"{"format": "product-model 1", "root": "Node", "instances": 3, "types": [
     {"name": "Node", "ports": [
         {"name": "next", "kind": "part", "target": "Node", "links": [1, 1]}]}]}"#;
 
 /// Nodes, each of which uses one node.
-pub(crate) const NODE_USES: &str =
+pub const NODE_USES: &str =
     r#"{"format": "product-model 1", "root": "Node", "instances": 3, "types": [
     {"name": "Node", "ports": [
         {"name": "next", "kind": "use", "target": "Node", "links": [1, 1]}]}]}"#;
 
 /// A rack of up to two cards, with two rules for cards: a power of at least 5, and then one of at
 /// most 7.
-pub(crate) const RULED_CARDS: &str =
+pub const RULED_CARDS: &str =
     r#"{"format": "product-model 1", "root": "Rack", "instances": 3, "types": [
     {"name": "Rack", "ports": [
         {"name": "cards", "kind": "part", "target": "Card", "links": [0, 2]}]},
@@ -61,8 +59,7 @@ pub(crate) const RULED_CARDS: &str =
         {"name": "weak", "type": "Card", "holds": ["<=", ["attr", "power"], 7]}]}"#;
 
 /// Racks of up to four small and big cards, whose powers may sum up to 30.
-pub(crate) const RACKS: &str =
-    r#"{"format": "product-model 1", "root": "Rack", "instances": 5, "types": [
+pub const RACKS: &str = r#"{"format": "product-model 1", "root": "Rack", "instances": 5, "types": [
     {"name": "Item", "attributes": [{"name": "price", "range": [0, 100]}]},
     {"name": "Rack", "parent": "Item", "attributes": [{"name": "price", "range": [50, 50]}],
         "ports": [{"name": "cards", "kind": "part", "target": "Card", "links": [0, 4]}]},
@@ -74,7 +71,7 @@ pub(crate) const RACKS: &str =
     "rules": [{"name": "load", "type": "Rack", "holds": ["<=", ["sum", "cards", "power"], 30]}]}"#;
 
 /// The same with at most two cards.
-pub(crate) const FEW_CARDS: &str =
+pub const FEW_CARDS: &str =
     r#"{"format": "product-model 1", "root": "Rack", "instances": 5, "types": [
     {"name": "Item", "attributes": [{"name": "price", "range": [0, 100]}]},
     {"name": "Rack", "parent": "Item", "attributes": [{"name": "price", "range": [50, 50]}],
@@ -88,8 +85,7 @@ pub(crate) const FEW_CARDS: &str =
     "rules": [{"name": "load", "type": "Rack", "holds": ["<=", ["sum", "cards", "power"], 30]}]}"#;
 
 /// Racks of cards with a bus, and spare ones.
-pub(crate) const BUSES: &str =
-    r#"{"format": "product-model 1", "root": "Rack", "instances": 4, "types": [
+pub const BUSES: &str = r#"{"format": "product-model 1", "root": "Rack", "instances": 4, "types": [
     {"name": "Item"},
     {"name": "Rack", "parent": "Item", "ports": [
         {"name": "cards", "kind": "part", "target": "Card", "links": [0, 3]},
@@ -100,8 +96,7 @@ pub(crate) const BUSES: &str =
     {"name": "Big", "parent": "Card"}]}"#;
 
 /// Racks of up to two cards, each of which knows its rack: the ports are each other's inverse.
-pub(crate) const HOMES: &str =
-    r#"{"format": "product-model 2", "root": "Rack", "instances": 3, "types": [
+pub const HOMES: &str = r#"{"format": "product-model 2", "root": "Rack", "instances": 3, "types": [
     {"name": "Rack", "ports": [
         {"name": "cards", "kind": "part", "target": "Card", "links": [0, 2], "inverse": "home"}]},
     {"name": "Card", "ports": [
@@ -109,8 +104,7 @@ pub(crate) const HOMES: &str =
             "links": [1, 1], "inverse": "cards"}]}]}"#;
 
 /// Nodes that link each other by a port that is its own inverse.
-pub(crate) const PEERS: &str =
-    r#"{"format": "product-model 2", "root": "Node", "instances": 3, "types": [
+pub const PEERS: &str = r#"{"format": "product-model 2", "root": "Node", "instances": 3, "types": [
     {"name": "Node", "ports": [
         {"name": "peers", "kind": "use", "target": "Node",
             "links": [0, 3], "inverse": "peers"}]}]}"#;

@@ -14,34 +14,26 @@ use std::alloc::Global;
 use std::test::Fail;
 
 /// The problem of a model file.
-pub(crate) fn problem_of(alloc: Global, model: &str) -> Result<Problem, Fail> {
+pub fn problem_of(alloc: Global, model: &str) -> Result<Problem, Fail> {
     Ok(read_model(alloc, model.as_bytes())?)
 }
 
 /// The order of an order file.
-pub(crate) fn order_of(alloc: Global, problem: &Problem, text: &str) -> Result<Order, Fail>
+pub fn order_of(alloc: Global, problem: &Problem, text: &str) -> Result<Order, Fail>
     ensures { IfOk result (λ o. IsValidOrder problem.now o) }
 {
     Ok(read_order(alloc, problem, text.as_bytes())?)
 }
 
 /// The configuration whose answer has these lines.
-pub(crate) fn answer_of(
-    alloc: Global,
-    problem: &Problem,
-    lines: &str,
-) -> Result<Configuration, Fail>
+pub fn answer_of(alloc: Global, problem: &Problem, lines: &str) -> Result<Configuration, Fail>
     ensures { IfOk result (λ c. IsTrue (is_spelled problem.now c)) }
 {
     Ok(read_answer(alloc, problem, lines.as_bytes())?)
 }
 
 /// The configuration of an answer, if it is found to satisfy the model.
-pub(crate) fn satisfying(
-    alloc: Global,
-    problem: &Problem,
-    lines: &str,
-) -> Result<Configuration, Fail>
+pub fn satisfying(alloc: Global, problem: &Problem, lines: &str) -> Result<Configuration, Fail>
     ensures { IfOk result (λ c. IsTrue (is_shaped problem.now c)) }
 {
     let c = answer_of(alloc, problem, lines)?;
