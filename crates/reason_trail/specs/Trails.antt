@@ -62,7 +62,8 @@ started j = record { job = j; stages = []; state = root j.model }
 -- the trail with one more entry, and the state that it leads to
 abbrev pub pushed : Trace → Literal → Why → State → Trace
 pushed t l why after = record t {
-  stages = t.stages ++ (record { before = t.state; entry = record { literal = l; why = why } }) ∷ [];
+  stages =
+      t.stages ++ (record { before = t.state; entry = record { literal = l; why = why } }) ∷ [];
   state = after;
 }
 
@@ -70,8 +71,8 @@ pushed t l why after = record t {
 abbrev pub cut_to : Trace → ℕ → Trace
 cut_to t n = record t { stages = take n t.stages; state = state_at t n }
 
--- What the change of a trail by a literal answers: what the literal does to its state. Where less is
--- left there is one more entry; else nothing changes.
+-- What the change of a trail by a literal answers: what the literal does to its state. Where less
+-- is left there is one more entry; else nothing changes.
 pub record IsPushed (l : Literal) (why : Why) (change : Change) (old new : Trace)
     : Type 0 where
   pub changed : ChangesBy old.job.model l change old.state new.state

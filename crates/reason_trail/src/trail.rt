@@ -122,8 +122,8 @@ impl Trail {
     pub fn entry(&self, n: u32) -> &Entry
         requires { n < length_of self.now }
         ensures entry { (g : Stage) → IsAt self.now.stages n g → g.entry ≡ result.now }
-        ensures because {
-            IsWhy self.now.job (state_at self.now n) result.now.literal result.now.why }
+        ensures because { IsWhy self.now.job (state_at self.now n) result.now.literal
+            result.now.why }
     {
         &self.entries[n as usize].entry
     }

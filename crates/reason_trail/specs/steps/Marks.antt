@@ -8,8 +8,8 @@ use Rattle.reason_trail.specs.declared.entry.Marked.{Marked}
 use Rattle.reason_trail.specs.Jobs.{Task}
 use Rattle.reason_trail.specs.Trails.{Trace, Stage, IsTrail}
 
--- The stage of a kept entry: going back over the log to the length that it had then brings the state
--- before the entry back.
+-- The stage of a kept entry: going back over the log to the length that it had then brings the
+-- state before the entry back.
 abbrev pub stage_of : List OldValue → State → Marked → Stage
 stage_of log s e = record { before = undone (drop e.mark log) s; entry = e.entry }
 
