@@ -1,2 +1,4 @@
 pub mod Kept
-pub mod Masks
+mod Watches
+mod Shelves
+mod Stored

@@ -1,2 +1,4 @@
-pub mod Keeping
+pub mod Watchers
 pub mod Watching
+pub mod Shelves
+pub mod Stored

@@ -1,11 +1,11 @@
 //! A store of nogoods.
-ghost use Rattle.std.specs.Prelude.{◌≡◌, ◌<◌, ◌↔◌, IsTrue, length, IfOk, OnErr};
+ghost use Rattle.std.specs.Prelude.{◌≡◌, ◌<◌, length, IfOk, OnErr};
 ghost use Rattle.base_laws.specs.Places.{IsAt};
 ghost use Rattle.literal_book.specs.Nogoods.{IsSound};
-ghost use Rattle.nogood_store.specs.Stores.{IsStore, AppliesAt, IsFirstApplying, IsAdded, IsSearched, empty};
+ghost use Rattle.nogood_store.specs.Stores.{IsStore, IsFirstApplying, IsAdded, IsSearched, empty};
 
-use crate::requests::Kept;
-use crate::watched::{Watched, applies};
+use crate::shelf::Shelf;
+use crate::watched::applies;
 use literal_book::{Added, Nogood};
 use prod_model::{Order, Problem};
 use reason_trail::Trail;
@@ -22,12 +22,11 @@ const MOST_LITERALS: usize = 32;
 pub struct Store {
     problem: Problem,
     order: Order,
-    nogoods: Vec<Watched>,
-    looked: u64,
+    shelf: Shelf,
 }
 
 impl Model for Store {
-    ghost use Rattle.nogood_store.specs.Stores.{Held, IsStore};
+    ghost use Rattle.nogood_store.specs.Stores.{Held};
     ghost use Rattle.prod_model.specs.contracts.expr.Expr as e;
     ghost use Rattle.std.specs.Coded.{codes};
 
@@ -35,11 +34,11 @@ impl Model for Store {
 
     ghost coded = { Prim.hlevel (codes, e.the_row.coded) };
 
-    ghost use Rattle.nogood_store.specs.steps.Watching.{held_of};
+    ghost use Rattle.nogood_store.specs.steps.Stored.{stored, IsStored};
 
-    ghost view = { λ s. held_of s.problem s.order s.nogoods.items s.looked };
+    ghost view = { λ s. stored s.problem s.order s.shelf };
 
-    ghost invariant = { λ s. IsStore (held_of s.problem s.order s.nogoods.items s.looked) };
+    ghost invariant = { λ s. IsStored s.problem s.order s.shelf };
 }
 
 impl Store {
@@ -51,8 +50,7 @@ impl Store {
         Ok(Store {
             problem: problem.copy(alloc)?,
             order: order.copy(alloc)?,
-            nogoods: Vec::new(alloc),
-            looked: 0,
+            shelf: Shelf::new(alloc),
         })
     }
 
@@ -61,7 +59,7 @@ impl Store {
         ensures length { result ≡ length self.now.nogoods }
         ensures right { IsStore self.now }
     {
-        self.nogoods.len() as u32
+        self.shelf.nogoods.len() as u32
     }
 
     /// The nogood of a number, from 0 in the order in which they were added.
@@ -70,7 +68,7 @@ impl Store {
         ensures there { IsAt self.now.nogoods n result.now }
         ensures sound { IsSound self.now.model self.now.order result.now }
     {
-        &self.nogoods[n as usize].nogood
+        &self.shelf.nogoods[n as usize].nogood
     }
 
     /// Takes a sound nogood, as its last. `TooLong` where it has more than 32 literals, else `Full`
@@ -84,10 +82,10 @@ impl Store {
         if n.literals.len() > MOST_LITERALS {
             return Ok(Added::TooLong);
         }
-        if self.nogoods.len() >= MOST_NOGOODS {
+        if self.shelf.nogoods.len() >= MOST_NOGOODS {
             return Ok(Added::Full);
         }
-        self.nogoods.push(Watched::new(n))?;
+        self.shelf.add(n)?;
         Ok(Added::Added)
     }
 
@@ -98,9 +96,8 @@ impl Store {
         requires { trail.now.job.model ≡ self.now.model }
         ensures { IsFirstApplying self.now.model keep.now trail.now.state self.now.nogoods result }
     {
-        let kept = Kept::new(keep);
-        for (k, watched) in self.nogoods.iter().enumerate() {
-            if applies(trail, &kept, &watched.nogood) {
+        for (k, watched) in self.shelf.nogoods.iter().enumerate() {
+            if applies(trail, keep, &watched.nogood) {
                 return Some(k as u32);
             }
         }
@@ -118,37 +115,7 @@ impl Store {
             result }
         ensures searched { IsSearched self.old self.new }
     {
-        let kept = Kept::new(keep);
-        for n in 0..self.len() {
-            if self.look(n, trail, &kept) {
-                return Some(n);
-            }
-        }
-        None
-    }
-
-    /// Whether the nogood of a number applies. Where it is reached and doesn't apply, a watch moves to
-    /// a literal that isn't entailed.
-    fn look(&mut self, n: u32, trail: &Trail, keep: &Kept<'_>) -> bool
-        requires within { n < length self.old.nogoods }
-        requires same_model { trail.now.job.model ≡ self.old.model }
-        ensures applies { IsTrue result
-            ↔ AppliesAt self.old.model keep.now trail.now.state self.old.nogoods n }
-        ensures searched { IsSearched self.old self.new }
-    {
-        let watched = &self.nogoods[n as usize];
-        if !watched.is_reached(trail, keep) {
-            return false;
-        }
-        let open = watched.first_open(trail);
-        self.looked = self.looked.saturating_add(u64::from(watched.has_others()));
-        match open {
-            Some(place) => {
-                self.nogoods[n as usize].watch_at(place);
-                false
-            }
-            None => true,
-        }
+        self.shelf.find(trail, keep)
     }
 
     /// The places of the two watched literals in the nogood of a number; they are one where it has one
@@ -157,7 +124,9 @@ impl Store {
         requires { n < length self.now.nogoods }
         ensures { IsAt self.now.watches n result }
     {
-        self.nogoods[n as usize].watch.map(|watch| watch.places())
+        self.shelf.nogoods[n as usize]
+            .watch
+            .map(|watch| watch.places())
     }
 
     /// How often `find` looked at the other literals of a nogood: once for each in each call; one that
@@ -165,6 +134,6 @@ impl Store {
     pub fn looked(&self) -> u64
         ensures { result ≡ self.now.looked }
     {
-        self.looked
+        self.shelf.looked
     }
 }

@@ -6,8 +6,7 @@ ghost use Rattle.state_space.specs.Entails.{entails as entails_of};
 ghost use Rattle.nogood_store.specs.Stores.{Applies, IsWatched, most_literals};
 ghost use Rattle.nogood_store.specs.steps.Watching.{AreWatchedEntailed, IsFirstOpen, first_watch};
 
-use crate::requests::Kept;
-use literal_book::{Literal, Nogood};
+use literal_book::{Literal, Nogood, are_kept};
 use reason_trail::Trail;
 use std::marker::Model;
 
@@ -71,7 +70,7 @@ impl Watched {
     }
 
     /// Whether its requests are kept and its watched literals entailed.
-    pub(crate) fn is_reached(&self, trail: &Trail, keep: &Kept<'_>) -> bool
+    pub(crate) fn is_reached(&self, trail: &Trail, keep: &[bool]) -> bool
         requires { IsWatched self.now.nogood self.now.watch }
         ensures kept { IsTrue result → AreKept keep.now self.now.nogood.requests }
         ensures entailed { IsTrue result → AreWatchedEntailed trail.now.job.model trail.now.state
@@ -79,7 +78,7 @@ impl Watched {
         ensures passed_over { IsFalse result
             → ¬ Applies trail.now.job.model keep.now trail.now.state self.now.nogood }
     {
-        self.are_watched_entailed(trail) && keep.has_all(self.nogood.requests)
+        are_kept(self.nogood.requests, keep) && self.are_watched_entailed(trail)
     }
 
     fn are_watched_entailed(&self, trail: &Trail) -> bool
@@ -133,10 +132,10 @@ impl Watched {
 }
 
 /// Whether in the state of the trail the nogood's requests are kept, and its literals entailed.
-pub(crate) fn applies(trail: &Trail, keep: &Kept<'_>, n: &Nogood) -> bool
+pub(crate) fn applies(trail: &Trail, keep: &[bool], n: &Nogood) -> bool
     ensures { IsTrue result ↔ Applies trail.now.job.model keep.now trail.now.state n.now }
 {
-    keep.has_all(n.requests) && are_entailed(trail, n.literals.as_slice())
+    are_kept(n.requests, keep) && are_entailed(trail, n.literals.as_slice())
 }
 
 fn are_entailed(trail: &Trail, literals: &[Literal]) -> bool

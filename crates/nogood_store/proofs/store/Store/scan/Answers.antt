@@ -11,7 +11,7 @@ returns-then-applies c =
     let same : map (λ w. w.nogood) c.deref-watched-items.result.now ≡ h.nogoods =
     ap (map (λ w. w.nogood)) c.deref-watched-items.ensures.value ∙ ap (λ h. h.nogoods) c.self.view_is in
     let at = at_kept c.deref-watched-items.result.now h.nogoods c.loop-k.k c.watched-item.result same c.loop-k-test.true c.watched-item.is in
-    let is = subst (λ m. Applies m c.args.keep.now c.args.trail.now.state c.watched-item.result.nogood) c.requires (subst (λ keep. Applies c.args.trail.now.job.model keep c.args.trail.now.state c.watched-item.result.nogood) c.new-kept.ensures (c.applies.ensures.0 c.if-applies.true)) in
+    let is = subst (λ m. Applies m c.args.keep.now c.args.trail.now.state c.watched-item.result.nogood) c.requires (c.applies.ensures.0 c.if-applies.true) in
     record {
       is = applies_there h.model c.args.keep.now c.args.trail.now.state h.nogoods c.loop-k.k c.watched-item.result.nogood at is;
       none_before = λ place applies before. c.loop-k.invariant place before applies;
@@ -24,12 +24,7 @@ loop-k-preserved c =
     ap (map (λ w. w.nogood)) c.deref-watched-items.ensures.value ∙ ap (λ h. h.nogoods) c.self.view_is in
     let at = at_kept c.deref-watched-items.result.now h.nogoods c.loop-k.k c.watched-item.result same c.loop-k-test.true c.watched-item.is in
     let none : ¬ Applies h.model c.args.keep.now c.args.trail.now.state c.watched-item.result.nogood =
-    λ is. absurd (
-    let there = subst (λ m. Applies m c.args.keep.now c.args.trail.now.state c.watched-item.result.nogood) (sym c.requires) is in
-    let holds = c.applies.ensures.1 (subst (λ keep. Applies c.args.trail.now.job.model keep c.args.trail.now.state c.watched-item.result.nogood) (sym c.new-kept.ensures) there) in
-    let fails = c.if-applies.false in
-    cc
-    ) in
+    λ is. absurd (let holds = c.applies.ensures.1 (subst (λ m. Applies m c.args.keep.now c.args.trail.now.state c.watched-item.result.nogood) (sym c.requires) is) in let fails = c.if-applies.false in cc) in
     below_more _ _ c.loop-k.invariant (passed_there h.model c.args.keep.now c.args.trail.now.state h.nogoods c.loop-k.k c.watched-item.result.nogood at none)
 
 pub returns : goal.returns

@@ -2,8 +2,8 @@ use Rattle.nogood_store.proofs.Kept.{entailed_watched}
 use Rattle.nogood_store.proofs.watched.Watched.is_reached.Goals as goal
 
 -- where it applies all its literals are entailed, the watched ones too
-pub returns-else-are_watched_entailed-clause-passed_over : goal.returns-else-are_watched_entailed-clause-passed_over
-returns-else-are_watched_entailed-clause-passed_over c =
+pub returns-then-are_kept-clause-passed_over : goal.returns-then-are_kept-clause-passed_over
+returns-then-are_kept-clause-passed_over c =
     λ fails is.
     let w = c.args.self.now in
     let holds = c.are_watched_entailed.ensures.1
