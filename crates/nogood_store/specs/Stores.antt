@@ -60,8 +60,8 @@ IsWatched n None = n.literals ≡ []
 IsWatched n (Some (a, b)) =
     (a < length n.literals) × (b < length n.literals) × (2 ≤ length n.literals → a ≢ b)
 
--- Each nogood is sound for the store's model and order, and has few literals; there are few nogoods,
--- and each is watched.
+-- Each nogood is sound for the store's model and order, and has few literals; there are few
+-- nogoods, and each is watched.
 pub record IsStore (h : Held) : Type 0 where
   pub sound : (k : ℕ) (n : Nogood) → IsAt h.nogoods k n → IsSound h.model h.order n
   pub short : (k : ℕ) (n : Nogood) → IsAt h.nogoods k n → length n.literals ≤ most_literals
@@ -72,19 +72,21 @@ pub record IsStore (h : Held) : Type 0 where
 
 -- ---- what calls do
 
--- What adding a nogood answers and does: too long exactly above the most literals; else full exactly
--- where the most nogoods are held; else it is last. The others stay, and where it isn't added all
--- does.
+-- What adding a nogood answers and does: too long exactly above the most literals; else full
+-- exactly where the most nogoods are held; else it is last. The others stay, and where it isn't
+-- added all does.
 pub record IsAdded (old new : Held) (n : Nogood) (a : Added) : Type 0 where
   pub too_long : (a ≡ TooLong) ↔ (most_literals < length n.literals)
-  pub full : (a ≡ Full) ↔ ((length n.literals ≤ most_literals) × (most_nogoods ≤ length old.nogoods))
+  pub full : (a ≡ Full)
+      ↔ ((length n.literals ≤ most_literals) × (most_nogoods ≤ length old.nogoods))
   pub added : a ≡ IsLast → new.nogoods ≡ old.nogoods ++ n ∷ []
   pub unchanged : a ≢ IsLast → new ≡ old
   pub model : new.model ≡ old.model
   pub order : new.order ≡ old.order
   pub looked : new.looked ≡ old.looked
 
--- What finding leaves: the nogoods stay, and are perhaps watched elsewhere; it has looked at no fewer.
+-- What finding leaves: the nogoods stay, and are perhaps watched elsewhere; it has looked at no
+-- fewer.
 pub record IsSearched (old new : Held) : Type 0 where
   pub model : new.model ≡ old.model
   pub order : new.order ≡ old.order

@@ -15,9 +15,9 @@ use literal_book::{Literal, Nogood};
 use reason_trail::Trail;
 use std::alloc::{AllocError, Global};
 
-/// Nogoods, each with its watched literals. Each that has literals stands in the row of one of them,
-/// so that a search visits only the rows whose literals are entailed: it tests each distinct watched
-/// literal once, and the other literals only of the nogoods in these rows.
+/// Nogoods, each with its watched literals. Each that has literals stands in the row of one of
+/// them, so that a search visits only the rows whose literals are entailed: it tests each distinct
+/// watched literal once, and the other literals only of the nogoods in these rows.
 #[derive(Drop)]
 pub(crate) struct Shelf {
     pub(crate) nogoods: Vec<Watched>,
@@ -101,8 +101,8 @@ impl Shelf {
         self.nogoods.get(n as usize)
     }
 
-    /// Takes a nogood, as its last, watched at its first literals. After `AllocError` the nogoods are
-    /// as they were.
+    /// Takes a nogood, as its last, watched at its first literals. After `AllocError` the nogoods
+    /// are as they were.
     pub(crate) fn add(&mut self, n: Nogood) -> Result<(), AllocError>
         requires shelf { IsShelf self.old }
         requires short { length n.literals ≤ most_literals }
@@ -119,7 +119,8 @@ impl Shelf {
         Ok(())
     }
 
-    /// Watches a nogood at its first literal. One without literals has its number among the bare ones.
+    /// Watches a nogood at its first literal. One without literals has its number among the bare
+    /// ones.
     fn place(&mut self, k: u32, literals: &[Literal]) -> Result<(), AllocError>
         ensures nogoods { self.new.nogoods ≡ self.old.nogoods }
         ensures looked { self.new.looked ≡ self.old.looked }
@@ -142,9 +143,9 @@ impl Shelf {
         }
     }
 
-    /// Looks at what stands at a place of a row, unless it is no less than the least number that was
-    /// found. Where it applies it is the least; where one of its literals isn't entailed, its watch
-    /// moves to the row of that.
+    /// Looks at what stands at a place of a row, unless it is no less than the least number that
+    /// was found. Where it applies it is the least; where one of its literals isn't entailed, its
+    /// watch moves to the row of that.
     fn look(
         &mut self,
         k: usize,

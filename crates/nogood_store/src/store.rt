@@ -72,8 +72,8 @@ impl Store {
     }
 
     /// Takes a sound nogood, as its last. `TooLong` where it has more than 32 literals, else `Full`
-    /// where 20,000 are held; then, and after `AllocError`, the store is as it was. It makes the room
-    /// that finding needs.
+    /// where 20,000 are held; then, and after `AllocError`, the store is as it was. It makes the
+    /// room that finding needs.
     pub fn add(&mut self, n: Nogood) -> Result<Added, AllocError>
         requires { IsSound self.old.model self.old.order n }
         ensures added { IfOk result (IsAdded self.old self.new n) }
@@ -89,9 +89,9 @@ impl Store {
         Ok(Added::Added)
     }
 
-    /// The number of the first nogood that applies to the state of the trail: its requests are kept,
-    /// and its literals entailed. `keep` tells of the request at each place, and a request at no
-    /// place is not kept. It looks at each nogood in turn, and takes no memory.
+    /// The number of the first nogood that applies to the state of the trail: its requests are
+    /// kept, and its literals entailed. `keep` tells of the request at each place, and a request at
+    /// no place is not kept. It looks at each nogood in turn, and takes no memory.
     pub fn scan(&self, trail: &Trail, keep: &[bool]) -> Option<u32>
         requires { trail.now.job.model ≡ self.now.model }
         ensures { IsFirstApplying self.now.model keep.now trail.now.state self.now.nogoods result }
@@ -104,11 +104,11 @@ impl Store {
         None
     }
 
-    /// The answer of `scan`, but most nogoods are passed over: of each it tests two watched literals
-    /// (Moskewicz and others 2001), and the others only where both are entailed. Then a watch moves
-    /// to a literal that isn't, if there is one. It keeps no tie to an earlier state: what is
-    /// entailed may cease to be when an instance is made, and come back when the trail goes back. It
-    /// takes no memory.
+    /// The answer of `scan`, but most nogoods are passed over: of each it tests two watched
+    /// literals (Moskewicz and others 2001), and the others only where both are entailed. Then a
+    /// watch moves to a literal that isn't, if there is one. It keeps no tie to an earlier state:
+    /// what is entailed may cease to be when an instance is made, and come back when the trail goes
+    /// back. It takes no memory.
     pub fn find(&mut self, trail: &Trail, keep: &[bool]) -> Option<u32>
         requires { trail.now.job.model ≡ self.old.model }
         ensures first { IsFirstApplying self.old.model keep.now trail.now.state self.old.nogoods
@@ -118,8 +118,8 @@ impl Store {
         self.shelf.find(trail, keep)
     }
 
-    /// The places of the two watched literals in the nogood of a number; they are one where it has one
-    /// literal. `None` where it has none.
+    /// The places of the two watched literals in the nogood of a number; they are one where it has
+    /// one literal. `None` where it has none.
     pub fn watched(&self, n: u32) -> Option<(u32, u32)>
         requires { n < length self.now.nogoods }
         ensures { IsAt self.now.watches n result }
@@ -129,8 +129,8 @@ impl Store {
             .map(|watch| watch.places())
     }
 
-    /// How often `find` looked at the other literals of a nogood: once for each in each call; one that
-    /// has no other literals is not counted. It stays at its greatest value.
+    /// How often `find` looked at the other literals of a nogood: once for each in each call; one
+    /// that has no other literals is not counted. It stays at its greatest value.
     pub fn looked(&self) -> u64
         ensures { result ≡ self.now.looked }
     {

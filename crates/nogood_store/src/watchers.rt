@@ -16,9 +16,9 @@ pub(crate) struct Row {
     uses: usize,
 }
 
-/// For each literal at which nogoods are watched, the numbers of these nogoods. To find the row of a
-/// literal takes the time of hashing it, and to move a watch constant time beside that. The memory
-/// is that of the distinct literals, and four bytes for each literal of each nogood.
+/// For each literal at which nogoods are watched, the numbers of these nogoods. To find the row of
+/// a literal takes the time of hashing it, and to move a watch constant time beside that. The
+/// memory is that of the distinct literals, and four bytes for each literal of each nogood.
 #[derive(Drop)]
 pub(crate) struct Watchers {
     alloc: Global,
@@ -88,8 +88,8 @@ impl Watchers {
         Ok(k)
     }
 
-    /// Watches a nogood at a literal, too. `false` where no room was made for that, and then it isn't
-    /// watched there.
+    /// Watches a nogood at a literal, too. `false` where no room was made for that, and then it
+    /// isn't watched there.
     pub(crate) fn put(&mut self, l: &Literal, n: u32) -> bool
         ensures kept { KeepsWatches self.old self.new }
         ensures put { IsTrue result → IsWatchedAt self.new l.now n }

@@ -34,6 +34,7 @@ pub record AreEntailed (m : Model) (s : State) (i : ℕ) : Type 0 where
   pub counts : (p : ℕ) → entails_all m s (counts_description m s i p)
   pub all : entails_all m s (description m s i)
 
+-- So it is of each made instance of a state of the problem.
 abbrev pub DescriptionIsEntailed : Type 0
 DescriptionIsEntailed =
     (m : Model) (s : State) (i : ℕ) → IsState m s → i < number_made s → AreEntailed m s i

@@ -15,8 +15,8 @@ use std::test::Fail;
 /// A literal, and whether the first state entails it.
 pub(crate) type Entailed = (Literal, bool);
 
-/// One rack is made. Of its price, from 0 to 100, and of its cards, itself or up to four later ones,
-/// nothing is known.
+/// One rack is made. Of its price, from 0 to 100, and of its cards, itself or up to four later
+/// ones, nothing is known.
 const OF_THE_RACK: [Entailed; 14] = [
     (Literal::Made { instance: 0 }, true),
     (Literal::Made { instance: 1 }, false),

@@ -50,8 +50,8 @@ fn nogood_of(alloc: Global, requests: u64, literals: &[Literal]) -> Result<Nogoo
     })
 }
 
-/// An order of one request, the requests and literals of a nogood, and whether it excludes the rack.
-/// Requests that the order lacks are passed over.
+/// An order of one request, the requests and literals of a nogood, and whether it excludes the
+/// rack. Requests that the order lacks are passed over.
 type Excluding = (&'static str, u64, &'static [Literal], bool);
 
 const EXCLUDING: [Excluding; 8] = [

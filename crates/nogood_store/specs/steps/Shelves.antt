@@ -79,7 +79,8 @@ pub record IsLooked (m : Model) (keep : List Bool) (s : State) (k at : ℕ) (old
 -- ---- what is left
 
 -- a number is watched at an entailed literal, at a row and place that are still ahead
-pub record IsLeft (m : Model) (s : State) (w : Watchers) (Ahead : ℕ → ℕ → Type 0) (p : ℕ) : Type 0 where
+pub record IsLeft
+    (m : Model) (s : State) (w : Watchers) (Ahead : ℕ → ℕ → Type 0) (p : ℕ) : Type 0 where
   pub row : ℕ
   pub place : ℕ
   pub literal : Literal
