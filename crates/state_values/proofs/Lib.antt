@@ -1,0 +1,11 @@
+pub mod ToldParts
+pub mod SeenLaws
+pub mod KleeneLaws
+pub mod RangeLaws
+pub mod TallyLaws
+pub mod LinkSums
+pub mod LiteralLaws
+pub mod NumbersHold
+pub mod LinkedTruths
+pub mod SeenHolds
+pub mod LowestLaws

@@ -5,7 +5,7 @@ use Rattle.config_value.specs.declared.found.Found.{Found}
 use Rattle.config_value.specs.Value as value
 use Rattle.state_values.specs.Kleene.{Kleene, True, False, Open}
 use Rattle.state_values.specs.Ranges.{End, Range}
-use Rattle.state_values.specs.Seen.{Seen, as_range, as_truth}
+use Rattle.state_values.specs.Seen.{Seen, as_range, as_kleene}
 
 -- for whichever literals hold
 module _ (Holds : Literal → Type 0) where
@@ -33,4 +33,4 @@ module _ (Holds : Literal → Type 0) where
 
   -- the number, or the truth, fits
   abbrev pub Fits : Seen → Found → Type 0
-  Fits s v = FitsRange (as_range s) (value.as_number v) × FitsTruth (as_truth s) (value.as_truth v)
+  Fits s v = FitsRange (as_range s) (value.as_number v) × FitsTruth (as_kleene s) (value.as_truth v)

@@ -12,7 +12,7 @@ use Rattle.prod_model.specs.declared.expr.Expr.TheFolds.{fold-Expr}
 use Rattle.prod_model.specs.declared.expr_bounds.Bounds.{Bounds}
 use Rattle.prod_model.specs.ExprBounds.{bounds_at}
 use Rattle.prod_model.specs.Forest.{is_a}
-use Rattle.prod_model.specs.Taxonomy.{port_of}
+use Rattle.prod_model.specs.Taxonomy.{declared_port_of}
 use Rattle.config_value.specs.declared.literal.Literal.{Literal}
 use Rattle.state_space.specs.State.{State}
 use Rattle.state_values.specs.Kleene.{Kleene, False, Open, shown_by, negated, both, either, implied, all_of, any_of}
@@ -31,9 +31,9 @@ as_range (Between r) = r
 as_range (Truth o) = exactly (pos 0)
 
 -- the truth; false for a number
-abbrev pub as_truth : Seen → Kleene
-as_truth (Between r) = False []
-as_truth (Truth o) = o
+abbrev pub as_kleene : Seen → Kleene
+as_kleene (Between r) = False []
+as_kleene (Truth o) = o
 
 -- a part of an expression: itself, and what it is at each type and instance
 pub record Part : Type 0 where
@@ -43,7 +43,7 @@ pub record Part : Type 0 where
 -- what a truth is at a linked instance: open where that may be outside the target
 abbrev pub at_linked : Model → State → Part → ℕ → ℕ → Kleene
 at_linked m s e target j =
-    if is_surely_under m s target j then as_truth (e.seen target j) else Open
+    if is_surely_under m s target j then as_kleene (e.seen target j) else Open
 
 -- what a form is at instance i, where it stands at type t, from what its parts are
 abbrev pub layer_seen : Model → State → Expr-F Part → ℕ → ℕ → Seen
@@ -55,12 +55,12 @@ layer_seen m s (Count p) t i = Between
 layer_seen m s (CountOf p u) t i = Between (option_map_or
     (λ q. tally (map (λ j. one_under m s u (linked s i p j) j) (made_numbers s))
     (fresh_rest s i p (one_if (is_a m q.target u)) (one_if (share_leaf m u q.target))))
-    (port_of m t p) (exactly (pos 0)))
+    (declared_port_of m t p) (exactly (pos 0)))
 layer_seen m s (Sum p a) t i = Between (option_map_or
     (λ q. tally
     (map (λ j. value_under m s q.target a (linked_under m s i p q.target j) j) (made_numbers s))
     (fresh_rest s i p (or_zero (least_at m q.target a)) (or_zero (greatest_at m q.target a))))
-    (port_of m t p) (exactly (pos 0)))
+    (declared_port_of m t p) (exactly (pos 0)))
 layer_seen m s (Total u a) t i = Between
     (tally (map (λ j. value_under m s u a (under_type m s u j) j) (made_numbers s))
     (unmade_rest m s (or_zero (least_at m u a)) (or_zero (greatest_at m u a))))
@@ -75,20 +75,20 @@ layer_seen m s (Cmp r e f) t i = Truth
     (compared r (as_range (e.seen t i)) (as_range (f.seen t i)))
 layer_seen m s (Is a w) t i = Truth (has_word s i a w)
 layer_seen m s (Kind u) t i = Truth (under_type m s u i)
-layer_seen m s (And es) t i = Truth (all_of (map (λ e. as_truth (e.seen t i)) es))
-layer_seen m s (Or es) t i = Truth (any_of (map (λ e. as_truth (e.seen t i)) es))
-layer_seen m s (Not e) t i = Truth (negated (as_truth (e.seen t i)))
-layer_seen m s (If e f) t i = Truth (implied (as_truth (e.seen t i)) (as_truth (f.seen t i)))
+layer_seen m s (And es) t i = Truth (all_of (map (λ e. as_kleene (e.seen t i)) es))
+layer_seen m s (Or es) t i = Truth (any_of (map (λ e. as_kleene (e.seen t i)) es))
+layer_seen m s (Not e) t i = Truth (negated (as_kleene (e.seen t i)))
+layer_seen m s (If e f) t i = Truth (implied (as_kleene (e.seen t i)) (as_kleene (f.seen t i)))
 layer_seen m s (All p e) t i = Truth (option_map_or
     (λ q. both
     (all_of (map (λ j. implied (linked s i p j) (at_linked m s e q.target j)) (made_numbers s)))
     (is_closed s i p))
-    (port_of m t p) Open)
+    (declared_port_of m t p) Open)
 layer_seen m s (Any p e) t i = Truth (option_map_or
     (λ q. either
     (any_of (map (λ j. both (linked s i p j) (at_linked m s e q.target j)) (made_numbers s)))
     (negated (is_closed s i p)))
-    (port_of m t p) Open)
+    (declared_port_of m t p) Open)
 
 -- a number is brought into its own bounds
 abbrev pub within_bounds : Option Bounds → Seen → Seen
@@ -116,7 +116,7 @@ high m s t i e = (as_range (seen_at m s t i e)).high.number
 
 -- what a truth is
 abbrev pub truth : Model → State → ℕ → ℕ → Expr → Kleene
-truth m s t i e = as_truth (seen_at m s t i e)
+truth m s t i e = as_kleene (seen_at m s t i e)
 
 -- the literals that show the low
 abbrev pub low_reads : Model → State → ℕ → ℕ → Expr → List Literal

@@ -1,0 +1,6 @@
+-- It is the lemma of its name.
+use Rattle.state_values.proofs.LowestLaws.{truth_holds as law}
+use Rattle.state_values.proofs.laws.truth_holds.Goals as goal
+
+pub returns : goal.returns
+returns c = law
