@@ -1,0 +1,2 @@
+pub mod KeyStartLaws
+mod KeyStartExamples

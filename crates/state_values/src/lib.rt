@@ -1,0 +1,4 @@
+//! What numbers and truths can still be in a partial state.
+#![tactic(auto)]
+
+pub mod key_start_laws;
