@@ -10,3 +10,5 @@ pub mod LinkedTruths
 pub mod HeldForms
 pub mod SeenHolds
 pub mod LowestLaws
+pub mod KeyStartLaws
+mod KeyStartExamples

@@ -6,3 +6,4 @@ pub mod Seen
 pub mod Fits
 pub mod Lowest
 pub mod Laws
+pub mod KeyStart

@@ -2,4 +2,5 @@
 //! are decided, and which ranks and keys are the least that a covered configuration can have.
 #![tactic(auto)]
 
+pub mod key_start_laws;
 pub mod laws;
