@@ -62,11 +62,11 @@ use Rattle.state_values.proofs.NumbersHold.{sum_ones, sum_tests, among_at, fits_
 
 -- an attribute with a range
 pub record IsRanged (a : AttrAt) : Type 0 where
-  low : ℤ
-  high : ℤ
-  is : a.domain ≡ domain.Range low high
+  pub low : ℤ
+  pub high : ℤ
+  pub is : a.domain ≡ domain.Range low high
 
-ranged : (f : ℤ → ℤ → Option Bounds) (a : AttrAt) (b : Bounds) → of_range f a ≡ Some b → IsRanged a
+pub ranged : (f : ℤ → ℤ → Option Bounds) (a : AttrAt) (b : Bounds) → of_range f a ≡ Some b → IsRanged a
 ranged f a b told = by a.domain refl told
   where
     by : (d : Domain) → a.domain ≡ d → (elim d [ domain.Range low high ↦ f low high | domain.Words ws ↦ None ]) ≡ Some b → IsRanged a

@@ -12,3 +12,6 @@ pub mod SeenHolds
 pub mod LowestLaws
 pub mod KeyStartLaws
 mod KeyStartExamples
+pub mod ReadsKleene
+pub mod ReadsSights
+pub mod ReadsTallies

@@ -7,3 +7,5 @@ pub mod Fits
 pub mod Lowest
 pub mod Laws
 pub mod KeyStart
+pub mod WholeDomains
+pub mod ReadsLaws
