@@ -15,3 +15,5 @@ mod KeyStartExamples
 pub mod ReadsKleene
 pub mod ReadsSights
 pub mod ReadsTallies
+pub mod ReadsEntailed
+pub mod CoveredLaws

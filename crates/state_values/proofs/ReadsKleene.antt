@@ -1,9 +1,7 @@
 -- What shows truths and ends that are put together is entailed where what shows the parts is.
-use Rattle.std.proofs.Common.{◌≡◌, ℕ, suc, ℤ, pos, negsuc, Bool, true, false, ◌&&◌, cond, List, [], ◌∷◌, ◌++◌, map, Option, Some, None, refl, sym, ap, ◌∙◌, subst}
+use Rattle.std.proofs.Common.{ℕ, suc, ℤ, pos, negsuc, Bool, true, false, cond, List, [], ◌∷◌, ◌++◌, map, Option, Some, None, refl, sym, ◌∙◌, subst}
 use Rattle.std.specs.Prelude.{IsTrue, int_le, int_lt}
-use Rattle.std.specs.List.{list_all}
-use Rattle.std.specs.Int.{int_min, int_max}
-use Rattle.std.proofs.lemmas.Bool.{and_parts, and_from}
+use Rattle.std.proofs.lemmas.Bool.{and_from}
 use Rattle.std.proofs.lemmas.List.Folds.{list_all-append}
 use Rattle.std.proofs.lemmas.Simd.{map-map}
 use Rattle.base_laws.specs.Places.{IsAt}
@@ -17,7 +15,7 @@ use Rattle.state_space.specs.State.{State}
 use Rattle.state_space.specs.Entails.{entails}
 use Rattle.state_space.specs.Described.{entails_all}
 use Rattle.state_values.specs.Kleene.{Kleene, True, False, Open, shown_by, negated, both, either, implied, all_of, any_of}
-use Rattle.state_values.specs.Ranges.{End, Range, exactly, range_sum, ranges_sum, range_difference, range_multiple, clamped, is_before, is_not_after, is_equal, compared}
+use Rattle.state_values.specs.Ranges.{Range, exactly, range_sum, ranges_sum, range_difference, range_multiple, clamped, is_before, is_not_after, is_equal, compared}
 
 module _ (m : Model) (s : State) where
   -- all that shows it is entailed

@@ -1,42 +1,34 @@
 -- What a state tells of types, links and values of its made instances it entails.
-use Rattle.std.proofs.Common.{◌≡◌, ℕ, ◌≤◌, ◌<◌, ◌+◌, ◌==◌, ℤ, pos, ◌≤ℤ◌, Bool, true, false, not, ◌&&◌, ◌||◌, cond, List, [], ◌∷◌, ◌++◌, map, length, Option, Some, None, refl, sym, ap, ◌∙◌, subst, arith, get_or}
-use Rattle.std.specs.Prelude.{IsTrue, IsFalse, nat_le, nat_lt, int_le, int_lt, slice_get, is_some}
-use Rattle.std.specs.Int.{int_min, int_max}
+use Rattle.std.proofs.Common.{◌≡◌, ℕ, ◌≤◌, ◌<◌, ◌+◌, ◌==◌, ℤ, pos, ◌≤ℤ◌, Bool, true, false, not, ◌&&◌, ◌||◌, cond, List, [], ◌∷◌, length, Option, Some, None, refl, sym, ap, ◌∙◌, subst, arith, get_or}
+use Rattle.std.specs.Prelude.{IsTrue, nat_le, nat_lt, int_le, slice_get, is_some}
 use Rattle.std.specs.Option.{option_map_or, option_and_then}
 use Rattle.std.specs.Ordering.{int_eq}
-use Rattle.std.specs.List.{list_all, list_any, count_by, filter, find}
+use Rattle.std.specs.List.{list_all, list_any, count_by, filter}
 use Rattle.std.proofs.lemmas.Bool.{false≢true, and_parts, and_from}
 use Rattle.std.proofs.lemmas.Bool.Decides.{nat_tests}
-use Rattle.std.proofs.lemmas.Int.{ints, clamps}
-use Rattle.std.proofs.lemmas.Option.{slice_get-get_or, same_Some, none-some}
+use Rattle.std.proofs.lemmas.Int.{ints}
+use Rattle.std.proofs.lemmas.Option.{slice_get-get_or}
 use Rattle.std.proofs.lemmas.List.Sums.{length-filter}
 use Rattle.base_laws.specs.Places.{IsAt}
 use Rattle.base_laws.proofs.Places.{find_at, find_place}
-use Rattle.base_laws.proofs.Tests.{list_all_at, list_all_by, list_any_at, list_any_from, option_map_or_at, option_map_or_from}
+use Rattle.base_laws.proofs.Tests.{list_all_by, list_any_from, option_map_or_from}
 use Rattle.prod_model.specs.declared.model.Model.{Model}
 use Rattle.prod_model.specs.declared.model.AttrAt.{AttrAt}
-use Rattle.prod_model.specs.declared.model.AttrDecl.{AttrDecl}
 use Rattle.prod_model.specs.declared.model.PortAt.{PortAt}
-use Rattle.prod_model.specs.declared.model.Domain.{Domain}
-use Rattle.prod_model.specs.declared.model.Domain.TheVariants as domain
 use Rattle.prod_model.specs.Forest.{is_a}
 use Rattle.prod_model.specs.Taxonomy.{attribute_of, declared_port_of, attributes_at, ports_at, declared_ports_at}
-use Rattle.prod_model.specs.Valid.{IsValid, narrows_domain}
+use Rattle.prod_model.specs.Valid.{IsValid}
 use Rattle.prod_model.proofs.NarrowingLaws.{IsAttributeWithin, IsPortWithin, attributes_narrow, declared_ports_narrow}
-use Rattle.prod_model.proofs.FirstDomains.{attribute_within_first}
-use Rattle.config_value.specs.declared.literal.Literal.{Literal}
 use Rattle.config_value.specs.declared.literal.Literal.TheVariants as literal
 use Rattle.config_value.specs.Literals.{has_attribute, has_port}
 use Rattle.state_space.specs.Sets.{has_number}
-use Rattle.state_space.specs.Values.{Values, Numbers, Words, has_value, least, greatest, is_empty}
+use Rattle.state_space.specs.Values.{Values, has_value, least, greatest, is_empty}
 use Rattle.state_space.specs.Ports.{PortState}
 use Rattle.state_space.specs.Made.{MadeInstance, domain_of, port_of_made}
-use Rattle.state_space.specs.State.{State, IsState, IsMadeOf, IsPortOf, number_made, kinds_at, low_at, high_at, allows_at, domain_at, port_at, whole_domain, first_attributes, values_of}
-use Rattle.state_space.specs.Entails.{entails, all_kinds, at_made, has_domain_that, has_port_that}
-use Rattle.state_space.specs.Described.{entails_all}
-use Rattle.state_values.specs.Kleene.{Kleene, True, False, Open, shown_by}
-use Rattle.state_values.specs.Sights.{is_surely_under, is_maybe_under, port_state, no_port, under_type, linked, is_closed, value_range, has_word, least_at, greatest_at, or_zero}
-use Rattle.state_values.specs.WholeDomains.{AreDomainsWhole}
+use Rattle.state_space.specs.State.{State, IsState, IsMadeOf, IsPortOf, number_made, kinds_at, low_at, high_at, allows_at, domain_at}
+use Rattle.state_space.specs.Entails.{entails, all_kinds, has_domain_that, has_port_that}
+use Rattle.state_values.specs.Kleene.{True, False, Open}
+use Rattle.state_values.specs.Sights.{is_surely_under, is_maybe_under, port_state, no_port, under_type, linked, is_closed, value_range, has_word}
 use Rattle.state_values.proofs.ReadsKleene.{TruthEntailed, RangeEntailed, alone}
 
 -- ---- lists
@@ -77,7 +69,6 @@ none_from : (from : ℕ) (xs : List ℕ) → IsTrue (list_all (λ j. nat_lt j fr
     → count_by (nat_le from) xs ≡ 0
 none_from from xs below = sym (length-filter (nat_le from) xs) ∙ none_left from xs below
 
-
 -- numbers that pass the test are equal
 same_number : (n k : ℤ) → int_eq n k ≡ true → n ≡ k
 same_number n k is = grind (arith, ints)
@@ -89,7 +80,7 @@ pub has_port_below : (m : Model) → IsValid m → (k t p : ℕ) (q : PortAt) �
     → declared_port_of m t p ≡ Some q → IsTrue (has_port m k p)
 has_port_below m valid k t p q under found =
     let first = find_place (λ b. b.id == p) (IsPortWithin m) (λ a b within. ap (λ n. n == p) within.same_id)
-        (declared_ports_at m t) (ports_at m k) q found (declared_ports_narrow m valid.declared k t under) in
+    (declared_ports_at m t) (ports_at m k) q found (declared_ports_narrow m valid.declared k t under) in
     let passes = (find_at (λ (b : PortAt). b.id == p) (declared_ports_at m t) q found).2 in
     list_any_from (λ (r : PortAt). r.id == p) (ports_at m k) first.place first.there first.stands
     (ap (λ n. n == p) first.related.same_id ∙ passes)
@@ -99,7 +90,7 @@ pub has_attribute_below : (m : Model) → IsValid m → (k t a : ℕ) (q : AttrA
     → attribute_of m t a ≡ Some q → IsTrue (has_attribute m k a)
 has_attribute_below m valid k t a q under found =
     let first = find_place (λ b. b.id == a) IsAttributeWithin (λ x y within. ap (λ n. n == a) within.same_id)
-        (attributes_at m t) (attributes_at m k) q found (attributes_narrow m valid.declared k t under) in
+    (attributes_at m t) (attributes_at m k) q found (attributes_narrow m valid.declared k t under) in
     let passes = (find_at (λ (b : AttrAt). b.id == a) (attributes_at m t) q found).2 in
     list_any_from (λ (r : AttrAt). r.id == a) (attributes_at m k) first.place first.there first.stands
     (ap (λ n. n == a) first.related.same_id ∙ passes)

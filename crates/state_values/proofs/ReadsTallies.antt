@@ -1,22 +1,20 @@
 -- What shows what made instances and those not made yet add to a sum, a state entails.
-use Rattle.std.proofs.Common.{◌≡◌, ℕ, ◌≤◌, ◌<◌, ◌+◌, ◌==◌, ℤ, pos, ◌≤ℤ◌, Bool, true, false, not, ◌&&◌, cond, List, [], ◌∷◌, ◌++◌, map, Option, Some, None, refl, sym, ap, ◌∙◌, subst, arith}
+use Rattle.std.proofs.Common.{◌≡◌, ℕ, ◌<◌, ◌==◌, ℤ, pos, ◌≤ℤ◌, Bool, true, false, cond, [], ◌∷◌, ◌++◌, map, Some, None, refl, sym, ap, ◌∙◌, subst, arith}
 use Rattle.std.specs.Prelude.{IsTrue, int_le, int_lt, slice_get}
 use Rattle.std.specs.Int.{int_min, int_max}
 use Rattle.std.specs.Option.{option_map_or, option_and_then}
 use Rattle.std.specs.Ordering.{int_eq}
-use Rattle.std.specs.List.{list_all, list_any, find, range_with_len}
+use Rattle.std.specs.List.{list_all, list_any}
 use Rattle.std.proofs.lemmas.Bool.{false≢true, and_parts}
 use Rattle.std.proofs.lemmas.Bool.Decides.{nat_tests}
 use Rattle.std.proofs.lemmas.Int.{ints, clamps}
 use Rattle.std.proofs.lemmas.Simd.{map-map}
-use Rattle.base_laws.specs.Places.{IsAt}
 use Rattle.base_laws.proofs.Places.{find_at}
 use Rattle.base_laws.proofs.Ranges.{range_with_len_lt}
 use Rattle.base_laws.proofs.Tests.{list_any_at, list_any_from}
 use Rattle.prod_model.specs.declared.model.Model.{Model}
 use Rattle.prod_model.specs.declared.model.AttrAt.{AttrAt}
 use Rattle.prod_model.specs.declared.model.AttrDecl.{AttrDecl}
-use Rattle.prod_model.specs.declared.model.PortAt.{PortAt}
 use Rattle.prod_model.specs.declared.model.Domain.{Domain}
 use Rattle.prod_model.specs.declared.model.Domain.TheVariants as domain
 use Rattle.prod_model.specs.Forest.{is_a}
@@ -28,16 +26,16 @@ use Rattle.config_value.specs.Literals.{has_attribute}
 use Rattle.state_space.specs.Values.{Values, least, greatest}
 use Rattle.state_space.specs.Ports.{PortState}
 use Rattle.state_space.specs.Made.{MadeInstance, domain_of}
-use Rattle.state_space.specs.State.{State, IsState, number_made, kinds_at, low_at, high_at, domain_at, whole_domain, first_attributes, values_of}
+use Rattle.state_space.specs.State.{State, IsState, number_made, low_at, high_at, domain_at, whole_domain, first_attributes, values_of}
 use Rattle.state_space.specs.Described.{entails_all}
 use Rattle.state_values.specs.Kleene.{Kleene, True, False, Open, is_false}
-use Rattle.state_values.specs.Ranges.{End, Range, range_sum, ranges_sum}
-use Rattle.state_values.specs.Tallies.{Share, Rest, shows_low, shows_high, share_low, share_high, share_range, by_sign, rest_range, tally}
+use Rattle.state_values.specs.Ranges.{End, ranges_sum}
+use Rattle.state_values.specs.Tallies.{Share, Rest, shows_low, shows_high, share_low, share_high, share_range, rest_range, tally}
 use Rattle.state_values.specs.Sights.{made_numbers, is_surely_under, is_maybe_under, port_state, under_type, linked, least_at, greatest_at, or_zero, one, one_if, one_under, value_under, linked_under, fresh_rest, unmade_rest}
 use Rattle.state_values.specs.WholeDomains.{AreDomainsWhole}
 use Rattle.state_values.proofs.HeldForms.{IsRanged}
 use Rattle.state_values.proofs.ReadsKleene.{TruthEntailed, RangeEntailed, joined, alone, chosen, sum_entailed, sums_entailed}
-use Rattle.state_values.proofs.ReadsSights.{IsThere, there, has_attribute_below, kind_entailed, not_kind_entailed, maybe_of_surely, under_type_entailed, IsPortThere, port_state_is, linked_entailed, fewer_entailed, more_entailed, IsDomainThere, domain_there_of, at_least_entailed, at_most_entailed}
+use Rattle.state_values.proofs.ReadsSights.{IsThere, there, has_attribute_below, kind_entailed, not_kind_entailed, maybe_of_surely, IsPortThere, port_state_is, linked_entailed, fewer_entailed, more_entailed, IsDomainThere, domain_there_of, at_least_entailed, at_most_entailed}
 
 module _ (m : Model) (s : State) where
   -- ---- one instance's share

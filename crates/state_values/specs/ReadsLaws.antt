@@ -45,11 +45,11 @@ ReadsAreEntailed =
 
 -- what is seen holds in the configuration
 pub record IsSeenRightly (m : Model) (s : State) (c : List Instance) (e : Expr) (t i : ℕ) : Type 0
-    where
-  pub least : low m s t i e ≤ℤ number_at m c i e
-  pub greatest : number_at m c i e ≤ℤ high m s t i e
-  pub true_so : IsTrue (is_true (truth m s t i e)) → IsTrue (is_true_at m c i e)
-  pub false_so : IsTrue (is_false (truth m s t i e)) → IsFalse (is_true_at m c i e)
+  where
+    pub least : low m s t i e ≤ℤ number_at m c i e
+    pub greatest : number_at m c i e ≤ℤ high m s t i e
+    pub true_so : IsTrue (is_true (truth m s t i e)) → IsTrue (is_true_at m c i e)
+    pub false_so : IsTrue (is_false (truth m s t i e)) → IsFalse (is_true_at m c i e)
 
 -- So it is in each shaped configuration that the state covers.
 abbrev pub SeenHoldsCovered : Type 0

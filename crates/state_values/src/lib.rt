@@ -2,5 +2,6 @@
 //! are decided, and which ranks and keys are the least that a covered configuration can have.
 #![tactic(auto)]
 
+pub mod covered_laws;
 pub mod key_start_laws;
 pub mod laws;

@@ -1,0 +1,6 @@
+-- It is the lemma of its name.
+use Rattle.state_values.proofs.CoveredLaws.{lowest_holds_covered as law}
+use Rattle.state_values.proofs.covered_laws.lowest_holds_covered.Goals as goal
+
+pub returns : goal.returns
+returns c = law
