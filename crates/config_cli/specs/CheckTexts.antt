@@ -37,7 +37,8 @@ criterion_text p = p.0.name ++ codes "=" ++ signed_decimal p.1 ++ line_end
 -- `satisfied`, and a line for each criterion. The value of a maximised one isn't negated.
 unfoldable pub satisfied_text : Model → Order → List Instance → List ℕ
 satisfied_text m o c =
-    codes "satisfied" ++ line_end ++ flat_map criterion_text (zip o.criteria (criteria_values m o c))
+    codes "satisfied" ++ line_end
+    ++ flat_map criterion_text (zip o.criteria (criteria_values m o c))
 
 -- ---- broken
 

@@ -1,5 +1,6 @@
 -- Plain models and orders, which are all that can be configured: one type, with whole numbers for
--- attributes, rules that compare two numbers or attributes, no requests, and criteria that are such.
+-- attributes, rules that compare two numbers or attributes, no requests, and criteria that are
+-- such.
 use Rattle.std.specs.Prelude.{Bool, true, false, ◌&&◌, ◌==◌, List, [], ◌∷◌, length, is_none}
 use Rattle.std.specs.List.{list_all}
 use Rattle.prod_model.specs.declared.model.Model.{Model}

@@ -35,8 +35,8 @@ pub data IsPreferredOutcome (m : Model) (o : Order) (status : Status) (text : Li
       → IsPreferredOutcome m o status text
 
 -- What the bytes of a model and an order result in: the first fault of the model; else, where the
--- model isn't plain, that it can't be configured yet; else the same of the order; else the preferred
--- outcome.
+-- model isn't plain, that it can't be configured yet; else the same of the order; else the
+-- preferred outcome.
 pub data IsConfigured (model order : List ℕ) (status : Status) (text : List ℕ) : Type 0 where
   refused_model : (f : Fault) → IsFaultOfFile HasModelFault model f
       → status ≡ Refused → text ≡ refused_text (codes "model") f.code f.place

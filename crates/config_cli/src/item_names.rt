@@ -9,9 +9,9 @@ use answer_check::codes;
 use config_value::Configuration;
 use prod_model::{Model, Problem};
 
-/// The name of the item of a broken test, by the number of the test: of an attribute or of a port of
-/// the instance, of a type whose instances are counted, or of a rule. It is `-` where the test has
-/// none.
+/// The name of the item of a broken test, by the number of the test: of an attribute or of a port
+/// of the instance, of a type whose instances are counted, or of a rule. It is `-` where the test
+/// has none.
 #[tactic(auto, unfolding(crate::specs::CheckTexts::item_name))]
 pub fn item_name<'a>(
     problem: &'a Problem,

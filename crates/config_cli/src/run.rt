@@ -98,8 +98,8 @@ fn run_words<S: Shelf, K: Sink>(
 ///
 /// `check MODEL ORDER ANSWER` reads the three files in this order, and writes in the same way:
 ///
-/// - `Satisfied` and the values of the criteria, where the answer's configuration satisfies the model
-///   and meets all requests;
+/// - `Satisfied` and the values of the criteria, where the answer's configuration satisfies the
+///   model and meets all requests;
 /// - `Broken` and the first test that it breaks, or else the first request that it doesn't meet;
 /// - `Refused` and the first fault, the model's before the order's and this before the answer's.
 ///   Any model and order without fault are taken.

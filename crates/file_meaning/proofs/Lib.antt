@@ -17,6 +17,7 @@ pub mod NameLists
 pub mod NamePlaces
 pub mod NoneFails
 pub mod OwnFaults
+pub mod PassedLists
 pub mod PassedModels
 pub mod PassedOrders
 pub mod PassedTypes

@@ -27,7 +27,7 @@ use Rattle.file_meaning.proofs.NoneFails.{NoneFails, whole_passes, none-member, 
 use Rattle.file_meaning.proofs.NameLists.{texts_numbered}
 use Rattle.file_meaning.proofs.PassedValues.{passes_rest, rest_from, Right, Sound, passed, name_from, name_is_good, good_name, order_format_back, expression_back}
 use Rattle.file_meaning.proofs.PassedTypes.{member_is, name_under}
-use Rattle.file_meaning.proofs.PassedModels.{of_member, names_read}
+use Rattle.file_meaning.proofs.PassedLists.{of_member, names_read}
 
 -- so many at most, with names of their form that differ
 pub record AreGoodNames {X : Type 0} (most : ℕ) (name_of : X → List ℕ) (xs : List X) : Type 0 where

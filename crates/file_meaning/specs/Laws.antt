@@ -83,7 +83,8 @@ FirstMisformedIsFirst =
 -- A value no part of which is misformed is an expression of the forms of the language.
 abbrev pub FormedIsForm : Type 0
 FormedIsForm =
-    (m : Model) (d : Data) (t : Option ℕ) → misformed d ≡ [] → IsTrue (is_form (expression_of m d t))
+    (m : Model) (d : Data) (t : Option ℕ) → misformed d ≡ []
+    → IsTrue (is_form (expression_of m d t))
 
 -- The value has no fault of a code up to this one.
 abbrev pub IsFaultlessTo : ℕ → Data → Type 0

@@ -155,7 +155,8 @@ fn port_in(alloc: Global, types: &[Value], value: &Value) -> Result<PortDecl, Al
 }
 
 fn ports_in(alloc: Global, types: &[Value], list: &[Value]) -> Result<Items<PortDecl>, AllocError>
-    ensures { IfOk result (λ ports. ports ≡ map (port_in (names_in types.now)) (map view list.now)) }
+    ensures { IfOk result
+        (λ ports. ports ≡ map (port_in (names_in types.now)) (map view list.now)) }
 {
     let mut ports = Items::new(alloc);
     for value in list {
@@ -186,7 +187,8 @@ fn type_in(alloc: Global, types: &[Value], value: &Value) -> Result<TypeDecl, Al
 }
 
 fn types_in(alloc: Global, types: &[Value], list: &[Value]) -> Result<Items<TypeDecl>, AllocError>
-    ensures { IfOk result (λ kinds. kinds ≡ map (type_in (names_in types.now)) (map view list.now)) }
+    ensures { IfOk result
+        (λ kinds. kinds ≡ map (type_in (names_in types.now)) (map view list.now)) }
 {
     let mut kinds = Items::new(alloc);
     for value in list {

@@ -28,7 +28,8 @@ use std::alloc::Global;
 fn problem_with(value: &Value, mut model: Model, tables: Tables, rules: Items<Rule>) -> Problem
     requires faultless { (f : AFault) → HasModelFault (view value.now) f → ⊥ }
     requires declared { model ≡ declared_in (view value.now) }
-    requires rules { rules ≡ map (rule_in (declared_in (view value.now)) (type_names (view value.now)))
+    requires rules { rules
+        ≡ map (rule_in (declared_in (view value.now)) (type_names (view value.now)))
         (items_at Rules (view value.now)) }
     requires tables { tables ≡ tables_of model }
     ensures model { StandsForModel (view value.now) result }

@@ -113,8 +113,8 @@ fn rules_with(
 }
 
 /// The rules of a model file. It refuses the value by its first fault where that is of a code from
-/// 12 to 16. It takes time linear in the value, besides what the bounds of expressions take, and for
-/// each rule that of looking for its type.
+/// 12 to 16. It takes time linear in the value, besides what the bounds of expressions take, and
+/// for each rule that of looking for its type.
 pub fn read_rules(
     alloc: Global,
     value: &Value,

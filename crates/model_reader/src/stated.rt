@@ -59,7 +59,8 @@ pub fn place_in(alloc: Global, list: Key, index: usize, key: Key) -> Result<Item
 ///
 /// # Errors
 ///
-/// `Fault` with its first fault, at a place from the whole file, and `Memory` where memory runs out.
+/// `Fault` with its first fault, at a place from the whole file, and `Memory` where memory runs
+/// out.
 #[tactic(auto, using(crate::proofs::StatedFaults::one_sound, crate::proofs::StatedFaults::one_placed))]
 pub fn read_stated(
     alloc: Global,
@@ -76,7 +77,8 @@ pub fn read_stated(
     ensures expr { IfOk result
         (λ e. e ≡ expression_of model.now (view value.now) (Some at)) }
     ensures sound { IfOk result (λ _. FindsFault
-        (HasStatedFault model.now (record { place = front; value = view value.now; of = at; truth = truth } ∷ [])) None) }
+        (HasStatedFault model.now
+        (record { place = front; value = view value.now; of = at; truth = truth } ∷ [])) None) }
     ensures fault { IfErr result (IsRefusalOfStated model.now
         (record { place = front; value = view value.now; of = at; truth = truth } ∷ [])) }
 {

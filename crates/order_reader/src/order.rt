@@ -30,7 +30,8 @@ fn earlier(first: Option<Fault>, other: Option<Fault>) -> Option<Fault>
     }
 }
 
-/// What the value wishes, with the first fault of its expressions: with one, some of the wishes lack.
+/// What the value wishes, with the first fault of its expressions: with one, some of the wishes
+/// lack.
 fn wishes_in(
     alloc: Global,
     model: &Model,
