@@ -7,5 +7,6 @@ pub mod LinkSums
 pub mod LiteralLaws
 pub mod NumbersHold
 pub mod LinkedTruths
+pub mod HeldForms
 pub mod SeenHolds
 pub mod LowestLaws
