@@ -10,3 +10,6 @@ pub mod LinkedTruths
 pub mod HeldForms
 pub mod SeenHolds
 pub mod LowestLaws
+mod RackExamples
+mod LowestExamples
+mod ServerExamples
