@@ -49,6 +49,10 @@ one_card = rack_state (
     made_rack (interval (pos 50) (pos 50)) (links (1 ∷ []) (1 ∷ []) 0 0)
     ∷ made_card (3 ∷ 4 ∷ []) (interval (pos 10) (pos 18)) (interval (pos 5) (pos 12)) ∷ [])
 
+-- a rack that may link itself, and no later instance
+abbrev with_itself : State
+with_itself = rack_state (made_rack (interval (pos 50) (pos 50)) (links [] (0 ∷ []) 0 0) ∷ [])
+
 -- ---- the first state
 
 -- The power of the cards is 0 to 80, at most 4 of 20 each: these are its bounds, so nothing has to be shown for either.
@@ -183,3 +187,9 @@ with_later : seen_at rack with_card 1 0 (all_linked 0 (at_most (attr 1) (num (po
     ≡ Truth Open ∷ Truth (True (literal.Linked 0 0 1 ∷ [])) ∷ []
 unfolding attributes_of ports_of is_a
 with_later = simp (seen_at_roll, bounds_laws)
+
+-- Each card has a power of 20 at most. But where a link may lead to the rack, which is no card, `all` and `any` are open.
+outside_target : seen_at rack with_itself 1 0 (all_linked 0 (at_most (attr 1) (num (pos 20)))) ∷ seen_at rack with_itself 1 0 (any_linked 0 (at_most (attr 1) (num (pos 0)))) ∷ []
+    ≡ Truth Open ∷ Truth Open ∷ []
+unfolding attributes_of ports_of is_a
+outside_target = simp (seen_at_roll, bounds_laws)
