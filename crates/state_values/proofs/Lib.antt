@@ -17,3 +17,6 @@ pub mod ReadsSights
 pub mod ReadsTallies
 pub mod ReadsEntailed
 pub mod CoveredLaws
+mod RackExamples
+mod LowestExamples
+mod ServerExamples

@@ -77,17 +77,17 @@ has_word s i a w =
 
 -- the least number of an attribute's range at a type
 abbrev pub least_at : Model → ℕ → ℕ → Option ℤ
-least_at m u a =
-    option_and_then
-    (λ (q : AttrAt). elim q.domain [ domain.Range low high ↦ Some low | domain.Words words ↦ None ])
-    (attribute_of m u a)
+least_at m u a = option_and_then (λ (q : AttrAt). elim q.domain [
+  | domain.Range low high ↦ Some low
+  | domain.Words words ↦ None
+]) (attribute_of m u a)
 
 -- the greatest number of an attribute's range at a type
 abbrev pub greatest_at : Model → ℕ → ℕ → Option ℤ
-greatest_at m u a =
-    option_and_then
-    (λ (q : AttrAt). elim q.domain [ domain.Range low high ↦ Some high | domain.Words words ↦ None ])
-    (attribute_of m u a)
+greatest_at m u a = option_and_then (λ (q : AttrAt). elim q.domain [
+  | domain.Range low high ↦ Some high
+  | domain.Words words ↦ None
+]) (attribute_of m u a)
 
 -- the number, and 0 where there is none
 abbrev pub or_zero : Option ℤ → ℤ

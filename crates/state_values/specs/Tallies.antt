@@ -69,11 +69,11 @@ pub record Rest : Type 0 where
   pub more : List Literal
   pub fewer : List Literal
 
--- the product of a count and n is the same however many there are, or least where they are fewest,
--- or where they are most
+-- What shows an end of a sum in which each adds n: nothing where n is 0, since their number doesn't
+-- matter then; the first literals where it is above 0, and the second where it is below.
 abbrev pub by_sign : ℤ → List Literal → List Literal → List Literal
-by_sign n more fewer =
-    if int_eq n (pos 0) then [] else (if int_lt (pos 0) n then more else fewer)
+by_sign n above below =
+    if int_eq n (pos 0) then [] else (if int_lt (pos 0) n then above else below)
 
 -- what they add together
 abbrev pub rest_range : Rest → Range

@@ -1,5 +1,5 @@
-//! What numbers and truths can be in a partial state: between which ends a number lies, which truths
-//! are decided, and which ranks and keys are the least that a covered configuration can have.
+//! What numbers and truths can be in a partial state: between which ends a number lies, which
+//! truths are decided, and which rank is the least that a configuration of it can have.
 #![tactic(auto)]
 
 pub mod covered_laws;
