@@ -1,2 +1,3 @@
 pub mod KeyStartLaws
+pub mod KeyStartLeft
 mod KeyStartExamples

@@ -1,1 +1,2 @@
 pub mod KeyStart
+pub mod steps
