@@ -11,6 +11,7 @@ pub mod HeldForms
 pub mod SeenHolds
 pub mod LowestLaws
 pub mod KeyStartLaws
+pub mod KeyStartLeft
 mod KeyStartExamples
 pub mod ReadsKleene
 pub mod ReadsSights

@@ -9,3 +9,4 @@ pub mod Laws
 pub mod KeyStart
 pub mod WholeDomains
 pub mod ReadsLaws
+pub mod steps

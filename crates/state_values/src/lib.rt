@@ -1,7 +1,12 @@
 //! What numbers and truths can be in a partial state: between which ends a number lies, which
-//! truths are decided, and which rank is the least that a configuration of it can have.
+//! truths are decided, and which ranks and keys are the least that a covered configuration can have.
 #![tactic(auto)]
 
 pub mod covered_laws;
+mod key_cursor;
+mod key_start;
+mod key_start_cursor;
 pub mod key_start_laws;
 pub mod laws;
+
+pub use key_start::key_start_cmp;

@@ -1,0 +1,8 @@
+use Rattle.partial_state.proofs.SoleKinds.{sole_mask, several_mask}
+use Rattle.state_values.proofs.key_start_cursor.sole.Goals as goal
+
+pub returns-then-kinds-first : goal.returns-then-kinds-first
+returns-then-kinds-first c = sole_mask c.args.kinds c.requires c.ranges.kinds.fits c.if-kinds-first.true
+
+pub returns-else-kinds-first : goal.returns-else-kinds-first
+returns-else-kinds-first c = several_mask c.args.kinds c.requires c.ranges.kinds.fits c.if-kinds-first.false
