@@ -6,8 +6,9 @@ use Rattle.std.specs.Option.{option_map_or, option_and_then}
 use Rattle.std.specs.List.{flat_map, range_with_len}
 use Rattle.std.specs.declared.cmp.Ordering.{Ordering}
 use Rattle.std.specs.declared.cmp.Ordering.TheVariants.{Less, Equal, Greater}
-use Rattle.std.specs.Ordering.{ordering_then, MatchOrdering}
-use Rattle.std.specs.Cmp.{int_ranks}
+use Rattle.std.specs.Ordering.{ordering_then, ordering_reverse, MatchOrdering}
+use Rattle.std.specs.Cmp.{int_ranks, IsTotalOrder}
+use Rattle.std.proofs.lemmas.Cmp.{int_cmp_total, lists_total}
 use Rattle.std.specs.Cmp.Lexicographic.{slice_cmp}
 use Rattle.std.proofs.lemmas.Bool.{and_parts, or_cases, eqb-true, eq-eqb, false≢true}
 use Rattle.std.proofs.lemmas.Int.{ints}
@@ -38,7 +39,7 @@ use Rattle.state_space.proofs.ValuesLaws.{least-le}
 use Rattle.state_space.proofs.PortLaws.{below_rest}
 use Rattle.state_space.proofs.WholeLaws.{position_here, only_links}
 use Rattle.state_space.proofs.EntailsLaws.{IsCoveredAt, covered_at}
-use Rattle.state_values.specs.KeyStart.{ports_start, instance_start, instances_start, key_start, KeyStartHolds}
+use Rattle.state_values.specs.KeyStart.{ports_start, instance_start, instances_start, key_start, KeyStartHolds, KeyStartDecides}
 
 -- ---- lists of which one is not after the other
 
@@ -206,3 +207,19 @@ pub key_start_holds : KeyStartHolds
 unfolding key_start
 key_start_holds m s c valid state h =
     instances_hold m s c (valid_has_ids m valid) h state (number_made s) 0 c (omega arith) h.enough (λ k y at. subst (λ j. IsAt c j y) (omega arith) at)
+
+-- where a list that is not after another comes after a third one, so does the other
+after_not_after : (start key other : List ℤ) → IsNotAfter start key → slice_cmp int_cmp start other ≡ Greater → slice_cmp int_cmp key other ≡ Greater
+after_not_after start key other not_after after = by (slice_cmp int_cmp start key) refl not_after
+  where
+    total : IsTotalOrder (slice_cmp int_cmp)
+    total = lists_total int_cmp_total
+
+    by : (r : Ordering) → slice_cmp int_cmp start key ≡ r → r ≢ Greater → slice_cmp int_cmp key other ≡ Greater
+    by Less less never = total.antisymm key other ∙ ap ordering_reverse (total.trans other start key (total.antisymm other start ∙ ap ordering_reverse after) less)
+    by Equal same never = sym (total.congr start key other same) ∙ after
+    by Greater is never = absurd (never refl)
+
+-- Where the key start comes after a key, so does the key of each covered configuration.
+pub key_start_decides : KeyStartDecides
+key_start_decides m s c d valid state h after = after_not_after (key_start m s) (key c) (key d) (key_start_holds m s c valid state h) after

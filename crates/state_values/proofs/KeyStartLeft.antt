@@ -1,6 +1,6 @@
 -- Steps of reading a key start and a key, number by number.
 use Rattle.std.proofs.Common.{◌≡◌, ◌≢◌, ℕ, zero, suc, ◌+◌, ◌-◌, ◌<◌, ◌≤◌, ◌^◌, ℤ, pos, to_z, of_z, w64, SFits, List, [], ◌∷◌, ◌++◌, map, length, refl, ap, ap₂, sym, ◌∙◌, subst, Some, None, Bool, true, false, cond, arith, append_assoc, drop, get_or}
-use Rattle.std.specs.Prelude.{IsTrue, ◌↔◌, slice_index_or, ◌&&◌, not, ◌==◌}
+use Rattle.std.specs.Prelude.{IsTrue, slice_index_or, ◌&&◌, not, ◌==◌}
 use Rattle.std.specs.Int.{bit_at}
 use Rattle.std.specs.Option.{option_map_or, option_and_then, is_some}
 use Rattle.std.specs.List.{flat_map, list_all, list_any, range_with_len}
@@ -13,7 +13,6 @@ use Rattle.instance_set.specs.declared.set.InstanceSet.{InstanceSet}
 use Rattle.instance_set.specs.InstanceSets.{is_member, members, IsLeastFrom}
 use Rattle.instance_set.proofs.Walks.{member_low}
 use Rattle.port_wildcards.specs.declared.port_domain.PortDomain.{PortDomain}
-use Rattle.port_wildcards.specs.Ports.{IsWhole}
 use Rattle.prod_model.specs.declared.model.Model.{Model}
 use Rattle.prod_model.specs.declared.model.AttrAt.{AttrAt}
 use Rattle.prod_model.specs.declared.model.PortAt.{PortAt}
@@ -36,7 +35,7 @@ use Rattle.partial_state.proofs.PassingNumbers.{least_first, filter_none}
 use Rattle.partial_state.proofs.KindLaws.{has_kind, kinds_formed}
 use Rattle.partial_state.proofs.KindLists.{kinds_of_none}
 use Rattle.partial_state.proofs.SoleKinds.{sole_is}
-use Rattle.partial_state.proofs.WholeParts.{settled, first_is_type}
+use Rattle.partial_state.proofs.WholeParts.{first_is_type}
 use Rattle.state_values.specs.KeyStart.{ports_start, instance_start, instances_start, key_start}
 use Rattle.state_values.specs.steps.KeyStartLeft.{key_from, start_from, start_left, HasLeft}
 
@@ -118,26 +117,26 @@ module _ (m : Model) (s : State) where
       ap (λ o. option_map_or (λ q. cond (is_settled_port q) (port_key q.required ++ ports_start s i (start_from m s next) rest) []) o []) told
 
   -- a port that is not settled ends the start
-  pub port_ends : (i next : ℕ) (attributes : List AttrAt) (links : InstanceSet) (ports rest : List PortAt) (p : PortAt) (q : PortDomain) (whole : Bool)
-      → length attributes ≡ 0 → IsLeastFrom links 0 None → ports ≡ p ∷ rest → port_at s i p.id ≡ Some (state_of_port q) → IsTrue whole ↔ IsWhole q → whole ≡ false
+  pub port_ends : (i next : ℕ) (attributes : List AttrAt) (links : InstanceSet) (ports rest : List PortAt) (p : PortAt) (q : PortDomain) (known : Bool)
+      → length attributes ≡ 0 → IsLeastFrom links 0 None → ports ≡ p ∷ rest → port_at s i p.id ≡ Some (state_of_port q) → known ≡ is_settled_port (state_of_port q) → known ≡ false
       → start_left m s i attributes (instances_of links) ports next ≡ []
-  port_ends i next (a ∷ attributes) links ports rest p q whole none empty parted told is fails = absurd (omega (arith, none))
-  port_ends i next [] links ports rest p q whole none empty parted told is fails =
+  port_ends i next (a ∷ attributes) links ports rest p q known none empty parted told is fails = absurd (omega (arith, none))
+  port_ends i next [] links ports rest p q known none empty parted told is fails =
       ap₂ (λ js ps. map pos js ++ ports_start s i (start_from m s next) ps) (members_end links empty) parted
       ∙ port_start i next p rest (state_of_port q) told
-      ∙ ap (λ b. cond b (port_key (instances_of q.required) ++ ports_start s i (start_from m s next) rest) []) (sym (settled q whole is) ∙ fails)
+      ∙ ap (λ b. cond b (port_key (instances_of q.required) ++ ports_start s i (start_from m s next) rest) []) (sym is ∙ fails)
 
   -- a settled one has its number of links, and then the links
-  pub port_turn : (i next n : ℕ) (z : ℤ) (attributes : List AttrAt) (links : InstanceSet) (ports rest : List PortAt) (p : PortAt) (q : PortDomain) (whole : Bool)
-      → length attributes ≡ 0 → IsLeastFrom links 0 None → ports ≡ p ∷ rest → port_at s i p.id ≡ Some (state_of_port q) → IsTrue whole ↔ IsWhole q → whole ≡ true
+  pub port_turn : (i next n : ℕ) (z : ℤ) (attributes : List AttrAt) (links : InstanceSet) (ports rest : List PortAt) (p : PortAt) (q : PortDomain) (known : Bool)
+      → length attributes ≡ 0 → IsLeastFrom links 0 None → ports ≡ p ∷ rest → port_at s i p.id ≡ Some (state_of_port q) → known ≡ is_settled_port (state_of_port q) → known ≡ true
       → n ≡ length (members q.required) → z ≡ pos n → SFits w64 z
       → start_left m s i attributes (instances_of links) ports next ≡ to_z w64 (of_z w64 z) ∷ start_left m s i attributes (instances_of q.required) rest next
   unfolding instances_of
-  port_turn i next n z (a ∷ attributes) links ports rest p q whole none empty parted told is holds count is' fits = absurd (omega (arith, none))
-  port_turn i next n z [] links ports rest p q whole none empty parted told is holds count is' fits =
+  port_turn i next n z (a ∷ attributes) links ports rest p q known none empty parted told is holds count is' fits = absurd (omega (arith, none))
+  port_turn i next n z [] links ports rest p q known none empty parted told is holds count is' fits =
       ap₂ (λ js ps. map pos js ++ ports_start s i (start_from m s next) ps) (members_end links empty) parted
       ∙ port_start i next p rest (state_of_port q) told
-      ∙ ap (λ b. cond b (port_key (instances_of q.required) ++ ports_start s i (start_from m s next) rest) []) (sym (settled q whole is) ∙ holds)
+      ∙ ap (λ b. cond b (port_key (instances_of q.required) ++ ports_start s i (start_from m s next) rest) []) (sym is ∙ holds)
       ∙ ap (λ n. n ∷ (map pos (instances_of q.required) ++ ports_start s i (start_from m s next) rest)) (ap pos (sym count) ∙ in_memory z n is' fits)
 
   -- ---- instances

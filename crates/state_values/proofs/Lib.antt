@@ -21,3 +21,4 @@ pub mod CoveredLaws
 mod RackExamples
 mod LowestExamples
 mod ServerExamples
+pub mod WholeDomainLaws

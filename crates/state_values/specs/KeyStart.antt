@@ -1,6 +1,6 @@
 -- The key start of a state: numbers that come before, or begin, the key of each configuration that
 -- the state covers.
-use Rattle.std.specs.Prelude.{◌≢◌, ℕ, ℤ, pos, List, [], ◌∷◌, ◌++◌, map, slice_index_or, if◌then◌else◌}
+use Rattle.std.specs.Prelude.{◌≡◌, ◌≢◌, ℕ, ℤ, pos, List, [], ◌∷◌, ◌++◌, map, slice_index_or, if◌then◌else◌}
 use Rattle.std.specs.Option.{option_map_or}
 use Rattle.std.specs.List.{range_with_len}
 use Rattle.std.specs.declared.cmp.Ordering.{Ordering}
@@ -12,13 +12,14 @@ use Rattle.prod_model.specs.declared.model.PortAt.{PortAt}
 use Rattle.prod_model.specs.Taxonomy.{attributes_at, ports_at}
 use Rattle.prod_model.specs.Valid.{IsValid}
 use Rattle.config_value.specs.declared.configuration.Instance.{Instance}
-use Rattle.config_value.specs.Rank.{port_key, key}
+use Rattle.config_value.specs.Rank.{port_key, key, key_order}
 use Rattle.state_space.specs.State.{State, IsState, number_made, kinds_at, port_at, low_at}
 use Rattle.state_space.specs.Whole.{is_settled_port}
 use Rattle.state_space.specs.Covers.{Covers}
 
 -- For each port of instance i the number of its links and the links, and then what follows. The
--- first port that may still get links, or need not have one, ends the list before it.
+-- first port that may link a later instance, or need not link each possible one, ends the list
+-- before it.
 abbrev pub ports_start : State → ℕ → List ℤ → List PortAt → List ℤ
 ports_start s i later [] = later
 ports_start s i later (p ∷ ps) =
@@ -51,3 +52,9 @@ abbrev pub KeyStartHolds : Type 0
 KeyStartHolds =
     (m : Model) (s : State) (c : List Instance) → IsValid m → IsState m s → Covers m s c
     → key_start_order m s c ≢ Greater
+
+-- Where the key start comes after a key, so does the key of each covered configuration.
+abbrev pub KeyStartDecides : Type 0
+KeyStartDecides =
+    (m : Model) (s : State) (c d : List Instance) → IsValid m → IsState m s → Covers m s c
+    → key_start_order m s d ≡ Greater → key_order c d ≡ Greater

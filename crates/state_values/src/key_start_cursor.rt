@@ -1,12 +1,15 @@
 //! The key start of a state, read number by number.
 ghost use Rattle.std.specs.Prelude.{◌≡◌, ◌≢◌, ◌∷◌, [], MatchOption};
 ghost use Rattle.state_space.specs.State.{IsState};
+ghost use Rattle.state_space.specs.Whole.{is_settled_port};
 ghost use Rattle.partial_state.specs.Masks.{kinds_of};
+ghost use Rattle.partial_state.specs.Views.{state_of_port};
 ghost use Rattle.partial_state.specs.steps.Openings.{sole_of};
 ghost use Rattle.state_values.specs.KeyStart.{key_start};
 
 use instance_set::InstanceSet;
 use partial_state::Partial;
+use port_wildcards::PortDomain;
 use prod_model::{AttrAt, PortAt, Problem};
 use std::marker::Model;
 
@@ -68,7 +71,7 @@ impl<'a> KeyStartCursor<'a> {
         }
         if let Some((port, rest)) = self.ports.split_first() {
             let links = self.state.port(self.instance, port.id);
-            if !links.is_whole() {
+            if !is_settled(links) {
                 return None;
             }
             self.ports = rest;
@@ -94,6 +97,13 @@ impl<'a> KeyStartCursor<'a> {
             }
         }
     }
+}
+
+/// Whether all links of a port are known: no later instance is linked, and each possible one is.
+fn is_settled(links: PortDomain) -> bool
+    ensures { result ≡ is_settled_port (state_of_port links) }
+{
+    links.is_whole()
 }
 
 /// The type of a mask that has one alone.

@@ -8,5 +8,6 @@ mod key_start;
 mod key_start_cursor;
 pub mod key_start_laws;
 pub mod laws;
+pub mod whole_domain_laws;
 
 pub use key_start::key_start_cmp;

@@ -14,25 +14,25 @@ returns-in-Some-least_from c =
     c.in_default.ensures.cases c.in-Some-least_from.ensures c.remove.ensures c.from.ensures fits
 
 -- a port that is not settled ends the start
-pub returns-then-not-is_whole : goal.returns-then-not-is_whole
-returns-then-not-is_whole c =
+pub returns-then-not-is_settled : goal.returns-then-not-is_settled
+returns-then-not-is_settled c =
     let parted : c.self.inside.ports.now ≡ c.in-Some-split_first.port.now ∷ c.in-Some-split_first.rest.now = search rules in
-    let fails : c.is_whole.result ≡ false = search rules in
+    let fails : c.is_settled.result ≡ false = search rules in
     sym c.self.view_is
     ∙ port_ends c.self.inside.problem.now c.self.inside.state.now c.self.inside.instance c.self.inside.next
-    c.self.inside.attributes.now c.self.inside.links c.self.inside.ports.now c.in-Some-split_first.rest.now c.in-Some-split_first.port.now c.port-links.result c.is_whole.result
-    c.in_default.ensures.cases c.in_default-least_from.ensures parted c.port-links.ensures.links c.is_whole.ensures fails
+    c.self.inside.attributes.now c.self.inside.links c.self.inside.ports.now c.in-Some-split_first.rest.now c.in-Some-split_first.port.now c.port-links.result c.is_settled.result
+    c.in_default.ensures.cases c.in_default-least_from.ensures parted c.port-links.ensures.links c.is_settled.ensures fails
 
 -- the number of links of a settled port
 pub returns-in-Some-split_first : goal.returns-in-Some-split_first
 returns-in-Some-split_first c =
     let fits : SFits w64 c.from-in-Some-split_first.result = search rules in
     let parted : c.self.inside.ports.now ≡ c.in-Some-split_first.port.now ∷ c.in-Some-split_first.rest.now = search rules in
-    let holds : c.is_whole.result ≡ true = search rules in
+    let holds : c.is_settled.result ≡ true = search rules in
     sym c.self.view_is
     ∙ port_turn c.self.inside.problem.now c.self.inside.state.now c.self.inside.instance c.self.inside.next c.count.result c.from-in-Some-split_first.result
-    c.self.inside.attributes.now c.self.inside.links c.self.inside.ports.now c.in-Some-split_first.rest.now c.in-Some-split_first.port.now c.port-links.result c.is_whole.result
-    c.in_default.ensures.cases c.in_default-least_from.ensures parted c.port-links.ensures.links c.is_whole.ensures holds
+    c.self.inside.attributes.now c.self.inside.links c.self.inside.ports.now c.in-Some-split_first.rest.now c.in-Some-split_first.port.now c.port-links.result c.is_settled.result
+    c.in_default.ensures.cases c.in_default-least_from.ensures parted c.port-links.ensures.links c.is_settled.ensures holds
     c.count.ensures c.from-in-Some-split_first.ensures fits
 
 -- no instance is left
