@@ -1,2 +1,4 @@
 pub mod BranchLaws
 pub mod OwedLaws
+pub mod CutOrder
+pub mod CutLaws

@@ -2,6 +2,7 @@
 #![tactic(auto)]
 
 mod branch;
+pub mod cut_laws;
 pub mod laws;
 
 pub use branch::Branch;
