@@ -1,5 +1,5 @@
 -- Opposite literals of what is left open are a choice between two.
-use Rattle.std.proofs.Common.{◌≡◌, ◌≢◌, ℕ, suc, ◌+◌, ◌<◌, ◌≤◌, ℤ, pos, ◌+ℤ◌, Bool, true, false, not, ◌&&◌, List, [], ◌∷◌, length, refl, ap, sym, ◌∙◌, inl, inr, Some, None, Option, slice_get, arith, lt-ltb, ltb-true}
+use Rattle.std.proofs.Common.{◌≡◌, ℕ, suc, ◌+◌, ◌<◌, ◌≤◌, ℤ, pos, ◌+ℤ◌, Bool, false, not, ◌&&◌, [], ◌∷◌, length, refl, ap, sym, ◌∙◌, inl, inr, Some, None, Option, slice_get, arith, lt-ltb, ltb-true}
 use Rattle.std.specs.Prelude.{IsTrue, ◌==◌, nat_lt, nat_le, int_le, int_lt, if◌then◌else◌}
 use Rattle.std.specs.Option.{option_map_or, option_and_then}
 use Rattle.std.specs.List.{list_all, list_any, count_by}
@@ -17,9 +17,8 @@ use Rattle.state_space.specs.Values.{Values, least, greatest}
 use Rattle.state_space.specs.Ports.{PortState, is_closed}
 use Rattle.state_space.specs.Sets.{has_number}
 use Rattle.state_space.specs.State.{State, IsState, number_made, kinds_at, domain_at, port_at}
-use Rattle.state_space.specs.Entails.{entails, fits, opposite, all_kinds, has_domain_that, has_port_that, all_have_attribute, all_have_port}
+use Rattle.state_space.specs.Entails.{entails, fits, opposite, all_kinds, has_domain_that, has_port_that, all_have_port}
 use Rattle.state_space.proofs.ChangeLaws.{opposite_holds}
-use Rattle.state_space.proofs.NarrowingLaws.{true_along}
 use Rattle.state_space.proofs.PortLaws.{all_has, count_by-none}
 use Rattle.state_space.proofs.EntailsLaws.{port_parts}
 use Rattle.state_space.proofs.DescriptionLaws.{under_leaf, port_is}
@@ -39,7 +38,7 @@ by_opposites m s b state opposites first second open_first open_second = record 
 -- ---- types
 
 -- an instance that may be of a type is made
-made_with : (s : State) (i t : ℕ) → IsTrue (has_number (kinds_at s i) t) → (x : MadeInstance) × IsAt s.made i x × (kinds_at s i ≡ x.kinds)
+pub made_with : (s : State) (i t : ℕ) → IsTrue (has_number (kinds_at s i) t) → (x : MadeInstance) × IsAt s.made i x × (kinds_at s i ≡ x.kinds)
 made_with s i t has = by _ refl has
   where
     by : (o : Option MadeInstance) → slice_get s.made i ≡ o → IsTrue (has_number (option_map_or (λ x. x.kinds) o []) t) → (x : MadeInstance) × IsAt s.made i x × (kinds_at s i ≡ x.kinds)
@@ -57,7 +56,7 @@ kind_fails s i t test has fails =
     false_from_ne_true _ (λ all. false≢true (sym fails ∙ all_has test found.0.kinds t (sym (all_kinds_at s i found.0 test found.1) ∙ all) (ap (λ ks. has_number ks t) (sym found.2) ∙ has)))
 
 -- a possible type is a leaf
-leaf_at : (m : Model) (s : State) (i t : ℕ) → IsState m s → IsTrue (has_number (kinds_at s i) t) → IsTrue (is_leaf m t)
+pub leaf_at : (m : Model) (s : State) (i t : ℕ) → IsState m s → IsTrue (has_number (kinds_at s i) t) → IsTrue (is_leaf m t)
 leaf_at m s i t state has =
     let found = made_with s i t has in
     all_has (is_leaf m) found.0.kinds t (state.each i found.0 found.1).leaves (ap (λ ks. has_number ks t) (sym found.2) ∙ has)

@@ -2,3 +2,6 @@ pub mod BranchLaws
 pub mod OwedLaws
 pub mod CutOrder
 pub mod CutLaws
+pub mod KindMasks
+pub mod FixedLaws
+pub mod PortParts

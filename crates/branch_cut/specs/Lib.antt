@@ -1,3 +1,4 @@
 pub mod Branching
 pub mod Laws
 pub mod Cuts
+pub mod steps
