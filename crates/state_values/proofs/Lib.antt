@@ -1,0 +1,5 @@
+pub mod AddedLaws
+pub mod EndsLaws
+pub mod KindsTold
+pub mod SeenLaws
+pub mod ToldParts

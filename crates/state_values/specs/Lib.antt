@@ -6,3 +6,5 @@ pub mod Seen
 pub mod Fits
 pub mod Lowest
 pub mod Laws
+pub mod Told
+pub mod steps

@@ -1,3 +1,11 @@
 //! What numbers and truths can be in a partial state: between which ends a number lies, which truths
 //! are decided, and which ranks and keys are the least that a covered configuration can have.
 #![tactic(auto)]
+
+mod interval;
+mod kleene;
+mod shares;
+mod sums;
+
+pub use interval::Interval;
+pub use kleene::Kleene;

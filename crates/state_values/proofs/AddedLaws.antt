@@ -1,0 +1,1 @@
+-- What is added up over made instances.

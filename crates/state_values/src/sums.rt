@@ -1,0 +1,105 @@
+//! Sums of numbers that lie between two each.
+ghost use Rattle.std.specs.Prelude.{◌≡◌, pos, neg_ℤ, ◌+◌, ◌*◌, ◌^◌, ◌<◌, ◌+ℤ◌, ◌*ℤ◌, ◌≤ℤ◌, ◌≤◌};
+ghost use Rattle.std.specs.Int.{int_min, int_max};
+
+use crate::interval::{Ends, Interval, between, greater, lesser};
+
+/// A sum of at most 1024 numbers. It is kept in 128 bits, which it can't leave.
+#[derive(Clone, Copy)]
+pub(crate) struct Sum {
+    pub(crate) low: i128,
+    pub(crate) high: i128,
+    pub(crate) count: u32,
+    ghost few: { count ≤ 1024 },
+    ghost low_above: { neg_ℤ (pos (2 ^ 63 * count)) ≤ℤ low },
+    ghost low_below: { low ≤ℤ pos (2 ^ 63 * count) },
+    ghost high_above: { neg_ℤ (pos (2 ^ 63 * count)) ≤ℤ high },
+    ghost high_below: { high ≤ℤ pos (2 ^ 63 * count) },
+}
+
+/// What instances add that aren't made yet: from `fewest` to `most` of them add a number from `low`
+/// to `high` each.
+#[derive(Clone, Copy)]
+pub struct Unmade {
+    pub fewest: u32,
+    pub most: u32,
+    pub low: i64,
+    pub high: i64,
+}
+
+impl Sum {
+    pub(crate) fn new() -> Sum
+        ensures { (result.low ≡ pos 0) × (result.high ≡ pos 0) × (result.count ≡ 0) }
+    {
+        Sum {
+            low: 0,
+            high: 0,
+            count: 0,
+        }
+    }
+
+    /// With one more number.
+    pub(crate) fn plus(self, more: Interval) -> Sum
+        requires { self.count < 1024 }
+        ensures low { result.low ≡ self.low +ℤ more.low }
+        ensures high { result.high ≡ self.high +ℤ more.high }
+        ensures count { result.count ≡ self.count + 1 }
+    {
+        Sum {
+            low: self.low + i128::from(more.low),
+            high: self.high + i128::from(more.high),
+            count: self.count + 1,
+        }
+    }
+
+    pub(crate) fn ends(self) -> Ends
+        ensures { result ≡ record { low = self.low; high = self.high } }
+    {
+        between(self.low, self.high)
+    }
+
+    /// With what instances add that aren't made yet.
+    pub(crate) fn with_unmade(self, rest: Unmade) -> Ends
+        ensures { result ≡ record {
+          low = self.low +ℤ int_min (pos rest.fewest *ℤ rest.low) (pos rest.most *ℤ rest.low);
+          high = self.high +ℤ int_max (pos rest.fewest *ℤ rest.high) (pos rest.most *ℤ rest.high);
+        } }
+    {
+        between(low_with(self.low, rest), high_with(self.high, rest))
+    }
+}
+
+#[tactic(auto, using(std::proofs::lemmas::Int::clamps))]
+fn low_with(sum: i128, rest: Unmade) -> i128
+    requires low { neg_ℤ (pos (2 ^ 73)) ≤ℤ sum }
+    requires high { sum ≤ℤ pos (2 ^ 73) }
+    ensures { result
+        ≡ sum +ℤ int_min (pos rest.fewest *ℤ rest.low) (pos rest.most *ℤ rest.low) }
+{
+    lesser(
+        plus_times(sum, rest.fewest, rest.low),
+        plus_times(sum, rest.most, rest.low),
+    )
+}
+
+#[tactic(auto, using(std::proofs::lemmas::Int::clamps))]
+fn high_with(sum: i128, rest: Unmade) -> i128
+    requires low { neg_ℤ (pos (2 ^ 73)) ≤ℤ sum }
+    requires high { sum ≤ℤ pos (2 ^ 73) }
+    ensures { result
+        ≡ sum +ℤ int_max (pos rest.fewest *ℤ rest.high) (pos rest.most *ℤ rest.high) }
+{
+    greater(
+        plus_times(sum, rest.fewest, rest.high),
+        plus_times(sum, rest.most, rest.high),
+    )
+}
+
+/// With so many equal numbers.
+fn plus_times(sum: i128, count: u32, n: i64) -> i128
+    requires low { neg_ℤ (pos (2 ^ 73)) ≤ℤ sum }
+    requires high { sum ≤ℤ pos (2 ^ 73) }
+    ensures { result ≡ sum +ℤ (pos count *ℤ n) }
+{
+    sum + i128::from(count) * i128::from(n)
+}
