@@ -1,16 +1,21 @@
 //! Sums of numbers that lie between two each.
-ghost use Rattle.std.specs.Prelude.{◌≡◌, pos, neg_ℤ, ◌+◌, ◌*◌, ◌^◌, ◌<◌, ◌+ℤ◌, ◌*ℤ◌, ◌≤ℤ◌, ◌≤◌};
+ghost use Rattle.std.specs.Prelude.{◌≡◌, ℕ, ◌-◌, pos, neg_ℤ, ◌+◌, ◌*◌, ◌^◌, ◌<◌, ◌+ℤ◌, ◌*ℤ◌, ◌≤ℤ◌, ◌≤◌};
 ghost use Rattle.std.specs.Int.{int_min, int_max};
+ghost use Rattle.state_space.specs.State.{IsState, number_made};
+ghost use Rattle.state_values.specs.Sights.{made_numbers};
+ghost use Rattle.state_values.specs.steps.Added.{HasValues, shares_sum as shares_sum_of, tally_ends};
 
 use crate::interval::{Ends, Interval, between, greater, lesser};
+use crate::shares::{Added, share_at};
+use partial_state::Partial;
+use prod_model::Problem;
 
-/// A sum of at most 1024 numbers. It is kept in 128 bits, which it can't leave.
+/// A sum of fewer than 2^32 numbers. It is kept in 128 bits, which it can't leave.
 #[derive(Clone, Copy)]
 pub(crate) struct Sum {
     pub(crate) low: i128,
     pub(crate) high: i128,
     pub(crate) count: u32,
-    ghost few: { count ≤ 1024 },
     ghost low_above: { neg_ℤ (pos (2 ^ 63 * count)) ≤ℤ low },
     ghost low_below: { low ≤ℤ pos (2 ^ 63 * count) },
     ghost high_above: { neg_ℤ (pos (2 ^ 63 * count)) ≤ℤ high },
@@ -40,7 +45,7 @@ impl Sum {
 
     /// With one more number.
     pub(crate) fn plus(self, more: Interval) -> Sum
-        requires { self.count < 1024 }
+        requires { self.count < 2 ^ 32 - 1 }
         ensures low { result.low ≡ self.low +ℤ more.low }
         ensures high { result.high ≡ self.high +ℤ more.high }
         ensures count { result.count ≡ self.count + 1 }
@@ -69,10 +74,34 @@ impl Sum {
     }
 }
 
+/// What all made instances add, and those that aren't made yet. One pass over the made ones.
+pub(crate) fn tally(problem: &Problem, p: &Partial, added: &Added, rest: Unmade) -> Ends
+    requires state { IsState problem.now p.now }
+    requires values { (j : ℕ) → j < number_made p.now → HasValues problem.now p.now added.now j }
+    ensures { result ≡ tally_ends problem.now p.now added.now rest }
+{
+    shares_sum(problem, p, added).with_unmade(rest)
+}
+
+fn shares_sum(problem: &Problem, p: &Partial, added: &Added) -> Sum
+    requires state { IsState problem.now p.now }
+    requires values { (j : ℕ) → j < number_made p.now → HasValues problem.now p.now added.now j }
+    ensures low { result.low
+        ≡ (shares_sum_of problem.now p.now added.now (made_numbers p.now)).low }
+    ensures high { result.high
+        ≡ (shares_sum_of problem.now p.now added.now (made_numbers p.now)).high }
+{
+    let mut sum = Sum::new();
+    for j in 0..p.made() {
+        sum = sum.plus(share_at(problem, p, added, j));
+    }
+    sum
+}
+
 #[tactic(auto, using(std::proofs::lemmas::Int::clamps))]
 fn low_with(sum: i128, rest: Unmade) -> i128
-    requires low { neg_ℤ (pos (2 ^ 73)) ≤ℤ sum }
-    requires high { sum ≤ℤ pos (2 ^ 73) }
+    requires low { neg_ℤ (pos (2 ^ 95)) ≤ℤ sum }
+    requires high { sum ≤ℤ pos (2 ^ 95) }
     ensures { result
         ≡ sum +ℤ int_min (pos rest.fewest *ℤ rest.low) (pos rest.most *ℤ rest.low) }
 {
@@ -84,8 +113,8 @@ fn low_with(sum: i128, rest: Unmade) -> i128
 
 #[tactic(auto, using(std::proofs::lemmas::Int::clamps))]
 fn high_with(sum: i128, rest: Unmade) -> i128
-    requires low { neg_ℤ (pos (2 ^ 73)) ≤ℤ sum }
-    requires high { sum ≤ℤ pos (2 ^ 73) }
+    requires low { neg_ℤ (pos (2 ^ 95)) ≤ℤ sum }
+    requires high { sum ≤ℤ pos (2 ^ 95) }
     ensures { result
         ≡ sum +ℤ int_max (pos rest.fewest *ℤ rest.high) (pos rest.most *ℤ rest.high) }
 {
@@ -97,8 +126,8 @@ fn high_with(sum: i128, rest: Unmade) -> i128
 
 /// With so many equal numbers.
 fn plus_times(sum: i128, count: u32, n: i64) -> i128
-    requires low { neg_ℤ (pos (2 ^ 73)) ≤ℤ sum }
-    requires high { sum ≤ℤ pos (2 ^ 73) }
+    requires low { neg_ℤ (pos (2 ^ 95)) ≤ℤ sum }
+    requires high { sum ≤ℤ pos (2 ^ 95) }
     ensures { result ≡ sum +ℤ (pos count *ℤ n) }
 {
     sum + i128::from(count) * i128::from(n)
