@@ -1,2 +1,4 @@
 pub mod Ends
 pub mod Added
+pub mod Forms
+pub mod Parts
