@@ -1,5 +1,6 @@
 pub mod AddedLaws
 pub mod EndsLaws
+pub mod FormSeen
 pub mod KindsTold
 pub mod OwnBounds
 pub mod SeenLaws

@@ -163,6 +163,45 @@ module _ (a b : ℤ) where
 
 -- ---- each form
 
+-- the form is that of a number
+abbrev pub IsNumberForm : Expr-F Expr → Type 0
+IsNumberForm (Cmp r e f) = ⊥
+IsNumberForm (Is v w) = ⊥
+IsNumberForm (Kind u) = ⊥
+IsNumberForm (And es) = ⊥
+IsNumberForm (Or es) = ⊥
+IsNumberForm (Not e) = ⊥
+IsNumberForm (If e f) = ⊥
+IsNumberForm (All p e) = ⊥
+IsNumberForm (Any p e) = ⊥
+IsNumberForm form = Unit {0}
+
+module _ (m : Model) (t : ℕ) (a b : ℤ) where
+  number_roll : (form : Expr-F Expr) → bounds_at m (roll-Expr form) t ≡ Some (bounds.Number a b) → IsNumberForm form
+  number_roll (Num n) told = tt
+  number_roll (Attr v) told = tt
+  number_roll (Count p) told = tt
+  number_roll (CountOf p u) told = tt
+  number_roll (Sum p v) told = tt
+  number_roll (Total u v) told = tt
+  number_roll (Number u) told = tt
+  number_roll (Add es) told = tt
+  number_roll (Sub e f) told = tt
+  number_roll (Times k e) told = tt
+  number_roll (Cmp r e f) told = comparison_no_number a b (bounds_at m e t) (bounds_at m f t) (sym (bounds_at_Cmp m t r e f) ∙ told)
+  number_roll (Is v w) told = truth_no_number a b (if_some (option_map_or (is_word_of m w) (attribute_of m t v) false) (Some bounds.Truth) (bounds.Number a b) (sym (bounds_at_Is m t v w) ∙ told))
+  number_roll (Kind u) told = truth_no_number a b (if_some (is_type m u) (Some bounds.Truth) (bounds.Number a b) (sym (bounds_at_Kind m t u) ∙ told))
+  number_roll (And es) told = truths_no_number a b (map (λ e. bounds_at m e t) es) (if_some (has_arguments es) (truth_of (map (λ e. bounds_at m e t) es)) (bounds.Number a b) (sym (bounds_at_And m t es) ∙ told))
+  number_roll (Or es) told = truths_no_number a b (map (λ e. bounds_at m e t) es) (if_some (has_arguments es) (truth_of (map (λ e. bounds_at m e t) es)) (bounds.Number a b) (sym (bounds_at_Or m t es) ∙ told))
+  number_roll (Not e) told = truths_no_number a b (bounds_at m e t ∷ []) (sym (bounds_at_Not m t e) ∙ told)
+  number_roll (If e f) told = truths_no_number a b (bounds_at m e t ∷ bounds_at m f t ∷ []) (sym (bounds_at_If m t e f) ∙ told)
+  number_roll (All p e) told = linked_no_number a b (λ q. bounds_at m e q.target) (declared_port_of m t p) (sym (bounds_at_All m t p e) ∙ told)
+  number_roll (Any p e) told = linked_no_number a b (λ q. bounds_at m e q.target) (declared_port_of m t p) (sym (bounds_at_Any m t p e) ∙ told)
+
+  -- only a number has the bounds of one
+  pub number_form : (e : Expr) → bounds_at m e t ≡ Some (bounds.Number a b) → IsNumberForm (out-Expr e)
+  number_form e told = number_roll (out-Expr e) (ap (λ e. bounds_at m e t) (roll-out-Expr e) ∙ told)
+
 module _ (m : Model) (is : IsDeclared m) (t : ℕ) (a b : ℤ) where
   -- the pair of a port is within the limit
   few_links : (p : ℕ) (q : PortAt) → port_of m t p ≡ Some q → (q.low ≤ 256) × (q.high ≤ 256)
@@ -222,15 +261,15 @@ module _ (m : Model) (is : IsDeclared m) (t : ℕ) (a b : ℤ) where
       (bounded_are a b (sum_of (map low_of own)) (sum_of (map high_of own)) sums)
   own_roll (Sub e f) told = difference_are a b (bounds_at m e t) (bounds_at m f t) (sym (bounds_at_Sub m t e f) ∙ told)
   own_roll (Times k e) told = multiple_are a b k (bounds_at m e t) (sym (bounds_at_Times m t k e) ∙ told)
-  own_roll (Cmp r e f) told = absurd (comparison_no_number a b (bounds_at m e t) (bounds_at m f t) (sym (bounds_at_Cmp m t r e f) ∙ told))
-  own_roll (Is v w) told = absurd (truth_no_number a b (if_some (option_map_or (is_word_of m w) (attribute_of m t v) false) (Some bounds.Truth) (bounds.Number a b) (sym (bounds_at_Is m t v w) ∙ told)))
-  own_roll (Kind u) told = absurd (truth_no_number a b (if_some (is_type m u) (Some bounds.Truth) (bounds.Number a b) (sym (bounds_at_Kind m t u) ∙ told)))
-  own_roll (And es) told = absurd (truths_no_number a b (map (λ e. bounds_at m e t) es) (if_some (has_arguments es) (truth_of (map (λ e. bounds_at m e t) es)) (bounds.Number a b) (sym (bounds_at_And m t es) ∙ told)))
-  own_roll (Or es) told = absurd (truths_no_number a b (map (λ e. bounds_at m e t) es) (if_some (has_arguments es) (truth_of (map (λ e. bounds_at m e t) es)) (bounds.Number a b) (sym (bounds_at_Or m t es) ∙ told)))
-  own_roll (Not e) told = absurd (truths_no_number a b (bounds_at m e t ∷ []) (sym (bounds_at_Not m t e) ∙ told))
-  own_roll (If e f) told = absurd (truths_no_number a b (bounds_at m e t ∷ bounds_at m f t ∷ []) (sym (bounds_at_If m t e f) ∙ told))
-  own_roll (All p e) told = absurd (linked_no_number a b (λ q. bounds_at m e q.target) (declared_port_of m t p) (sym (bounds_at_All m t p e) ∙ told))
-  own_roll (Any p e) told = absurd (linked_no_number a b (λ q. bounds_at m e q.target) (declared_port_of m t p) (sym (bounds_at_Any m t p e) ∙ told))
+  own_roll (Cmp r e f) told = absurd (number_roll m t a b (Cmp r e f) told)
+  own_roll (Is v w) told = absurd (number_roll m t a b (Is v w) told)
+  own_roll (Kind u) told = absurd (number_roll m t a b (Kind u) told)
+  own_roll (And es) told = absurd (number_roll m t a b (And es) told)
+  own_roll (Or es) told = absurd (number_roll m t a b (Or es) told)
+  own_roll (Not e) told = absurd (number_roll m t a b (Not e) told)
+  own_roll (If e f) told = absurd (number_roll m t a b (If e f) told)
+  own_roll (All p e) told = absurd (number_roll m t a b (All p e) told)
+  own_roll (Any p e) told = absurd (number_roll m t a b (Any p e) told)
 
   -- The bounds of a number are those that its form has from its parts, and within the limits.
   pub own_form : (e : Expr) → bounds_at m e t ≡ Some (bounds.Number a b) → AreBounds a b (form_own m t (out-Expr e))
