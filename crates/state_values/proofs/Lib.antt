@@ -4,4 +4,5 @@ pub mod FormSeen
 pub mod KindsTold
 pub mod OwnBounds
 pub mod SeenLaws
+pub mod TallySeen
 pub mod ToldParts
