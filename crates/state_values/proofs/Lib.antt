@@ -2,7 +2,9 @@ pub mod AddedLaws
 pub mod EndsLaws
 pub mod FormSeen
 pub mod KindsTold
+pub mod LeafLaws
 pub mod OwnBounds
+pub mod PartsThere
 pub mod SeenLaws
 pub mod TallySeen
 pub mod ToldParts

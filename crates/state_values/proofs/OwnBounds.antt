@@ -29,6 +29,7 @@ use Rattle.prod_model.proofs.ExprBoundsLaws.{bounds_at_Num, bounds_at_Attr, boun
 use Rattle.config_value.proofs.ToldLaws.{if_some}
 use Rattle.state_values.specs.declared.interval.Ends.{Ends}
 use Rattle.state_values.specs.Sights.{least_at, greatest_at, or_zero}
+use Rattle.state_values.specs.steps.Ends.{AreLimited}
 use Rattle.state_values.specs.steps.Forms.{pair, multiples, values_at, own_sum, form_own}
 
 -- ---- ports with their inverses
@@ -48,13 +49,6 @@ pub port_declared : (m : Model) (t p : ℕ) → port_of m t p ≡ option_map (wi
 port_declared m t p = find_map (with_inverse m) (λ q. q.id == p) (declared_ports_at m t)
 
 -- ---- two ends within the limits
-
--- both ends are no farther from 0 than a bound may be
-pub record AreLimited (e : Ends) : Type 0 where
-  pub low_above : neg_ℤ farthest_bound ≤ℤ e.low
-  pub low_below : e.low ≤ℤ farthest_bound
-  pub high_above : neg_ℤ farthest_bound ≤ℤ e.high
-  pub high_below : e.high ≤ℤ farthest_bound
 
 -- two ends are the bounds a and b, and within the limits
 pub record AreBounds (a b : ℤ) (e : Ends) : Type 0 where

@@ -1,8 +1,7 @@
 //! Between which whole numbers a number lies.
 ghost use Rattle.std.specs.Prelude.{◌≡◌, pos, neg_ℤ, ◌+◌, ◌*◌, ◌^◌, ◌<◌, ◌+ℤ◌, ◌-ℤ◌, ◌*ℤ◌, ◌≤ℤ◌, ◌<ℤ◌};
 ghost use Rattle.std.specs.Int.{int_min, int_max};
-ghost use Rattle.prod_model.specs.Limits.{farthest_bound};
-ghost use Rattle.state_values.specs.steps.Ends.{clamped_ends, multiple_ends, multiple_bounds as multiple_bounds_of};
+ghost use Rattle.state_values.specs.steps.Ends.{AreLimited, clamped_ends, multiple_ends, multiple_bounds as multiple_bounds_of};
 
 use std::cmp::{max, min};
 
@@ -84,10 +83,7 @@ impl Interval {
 impl Ends {
     /// Ends that 64 bits hold.
     pub(crate) fn narrow(self) -> Interval
-        requires low_above { neg_ℤ farthest_bound ≤ℤ self.low }
-        requires low_below { self.low ≤ℤ farthest_bound }
-        requires high_above { neg_ℤ farthest_bound ≤ℤ self.high }
-        requires high_below { self.high ≤ℤ farthest_bound }
+        requires { AreLimited self }
         ensures { result ≡ record { low = self.low; high = self.high } }
     {
         Interval {

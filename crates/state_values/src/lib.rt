@@ -4,6 +4,8 @@
 
 mod interval;
 mod kleene;
+mod leaves;
+mod ranged;
 mod shares;
 mod sums;
 

@@ -128,7 +128,8 @@ pub(crate) fn is_maybe_under(problem: &Problem, p: &Partial, kind: u32, j: u32) 
     !p.entails(problem, &Literal::NotKind { instance: j, kind })
 }
 
-fn one_if(counts: bool) -> i64
+/// 1 where it is so, and else 0.
+pub(crate) fn one_if(counts: bool) -> i64
     ensures { result ≡ one_if counts }
 {
     if counts { 1 } else { 0 }

@@ -3,6 +3,7 @@ ghost use Rattle.std.specs.Prelude.{◌≡◌, ℕ, ◌-◌, pos, neg_ℤ, ◌+�
 ghost use Rattle.std.specs.Int.{int_min, int_max};
 ghost use Rattle.state_space.specs.State.{IsState, number_made};
 ghost use Rattle.state_values.specs.Sights.{made_numbers};
+ghost use Rattle.state_values.specs.steps.Forms.{multiples as multiples_of};
 ghost use Rattle.state_values.specs.steps.Added.{HasValues, shares_sum as shares_sum_of, tally_ends};
 
 use crate::interval::{Ends, Interval, between, greater, lesser};
@@ -122,6 +123,31 @@ fn high_with(sum: i128, rest: Unmade) -> i128
         plus_times(sum, rest.fewest, rest.high),
         plus_times(sum, rest.most, rest.high),
     )
+}
+
+/// What they add alone.
+pub(crate) fn multiples(rest: Unmade) -> Ends
+    ensures { result ≡ multiples_of rest }
+{
+    between(least_multiple(rest), greatest_multiple(rest))
+}
+
+fn least_multiple(rest: Unmade) -> i128
+    ensures { result ≡ int_min (pos rest.fewest *ℤ rest.low) (pos rest.most *ℤ rest.low) }
+{
+    lesser(times(rest.fewest, rest.low), times(rest.most, rest.low))
+}
+
+fn greatest_multiple(rest: Unmade) -> i128
+    ensures { result ≡ int_max (pos rest.fewest *ℤ rest.high) (pos rest.most *ℤ rest.high) }
+{
+    greater(times(rest.fewest, rest.high), times(rest.most, rest.high))
+}
+
+fn times(count: u32, n: i64) -> i128
+    ensures { result ≡ pos count *ℤ n }
+{
+    i128::from(count) * i128::from(n)
 }
 
 /// With so many equal numbers.

@@ -1,6 +1,7 @@
 -- The two ends of a number, without what shows them.
-use Rattle.std.specs.Prelude.{ℤ, pos, negsuc, ◌*ℤ◌}
+use Rattle.std.specs.Prelude.{ℤ, pos, negsuc, neg_ℤ, ◌*ℤ◌, ◌≤ℤ◌}
 use Rattle.std.specs.Int.{int_min, int_max}
+use Rattle.prod_model.specs.Limits.{farthest_bound}
 use Rattle.state_values.specs.declared.interval.Interval.{Interval}
 use Rattle.state_values.specs.declared.interval.Ends.{Ends}
 use Rattle.state_values.specs.Ranges.{Range}
@@ -27,3 +28,10 @@ multiple_bounds k a = record {
 abbrev pub multiple_ends : ℤ → Interval → Ends
 multiple_ends (pos k) a = record { low = pos k *ℤ a.low; high = pos k *ℤ a.high }
 multiple_ends (negsuc k) a = record { low = negsuc k *ℤ a.high; high = negsuc k *ℤ a.low }
+
+-- both ends are no farther from 0 than a bound of an expression may be
+pub record AreLimited (e : Ends) : Type 0 where
+  pub low_above : neg_ℤ farthest_bound ≤ℤ e.low
+  pub low_below : e.low ≤ℤ farthest_bound
+  pub high_above : neg_ℤ farthest_bound ≤ℤ e.high
+  pub high_below : e.high ≤ℤ farthest_bound

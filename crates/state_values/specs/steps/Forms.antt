@@ -1,8 +1,11 @@
 -- What a form is at a type and at an instance, from what its parts are.
-use Rattle.std.specs.Prelude.{ℕ, ℤ, pos, ◌-ℤ◌, ◌*ℤ◌, List, map}
+use Rattle.std.specs.Prelude.{ℕ, ℤ, pos, ◌-ℤ◌, ◌*ℤ◌, List, map, Some, None}
+use Rattle.std.specs.declared.option.Option.{Option}
 use Rattle.std.specs.Int.{int_min, int_max}
 use Rattle.std.specs.Option.{option_map_or}
 use Rattle.prod_model.specs.declared.model.Model.{Model}
+use Rattle.prod_model.specs.declared.model.AttrAt.{AttrAt}
+use Rattle.prod_model.specs.declared.model.Domain.TheVariants as domain
 use Rattle.prod_model.specs.declared.expr.Expr.{Expr, map-Expr}
 use Rattle.prod_model.specs.declared.expr.Expr.TheOpen.{Expr-F, Num, Attr, Count, CountOf, Sum, Total, Number, Add, Sub, Times, Cmp, Is, Kind, And, Or, Not, If, All, Any}
 use Rattle.prod_model.specs.ExprBounds.{bounds_at, low_of, high_of, sum_of}
@@ -22,6 +25,14 @@ abbrev pub form_seen : Model → State → ℕ → ℕ → Expr-F Expr → Seen
 form_seen m s t i form = layer_seen m s (map-Expr Expr Part (part_at m s) form) t i
 
 -- ---- the bounds of numbers at a type
+
+-- the least number of an attribute's range
+abbrev pub least_of : AttrAt → Option ℤ
+least_of q = elim q.domain [ domain.Range low high ↦ Some low | domain.Words words ↦ None ]
+
+-- the greatest
+abbrev pub greatest_of : AttrAt → Option ℤ
+greatest_of q = elim q.domain [ domain.Range low high ↦ Some high | domain.Words words ↦ None ]
 
 -- two numbers
 abbrev pub pair : ℤ → ℤ → Ends
