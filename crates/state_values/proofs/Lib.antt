@@ -3,6 +3,7 @@ pub mod EndsLaws
 pub mod FormSeen
 pub mod KindsTold
 pub mod LeafLaws
+pub mod NumberLaws
 pub mod OwnBounds
 pub mod PartsThere
 pub mod SeenLaws

@@ -1,6 +1,6 @@
 -- Where an expression has bounds, its parts have them too, and the instances have what it asks for.
-use Rattle.std.proofs.Common.{◌≡◌, ℕ, zero, suc, ◌<◌, ◌∙◌, ap, sym, subst, Bool, true, false, not, cond, ◌&&◌, ◌==◌, List, [], ◌∷◌, map, Option, Some, None, refl, eqb-true, eq-eqb}
-use Rattle.std.specs.Prelude.{ℤ, pos, IsTrue, IsSome, slice_get, if◌then◌else◌}
+use Rattle.std.proofs.Common.{◌≡◌, ℕ, zero, suc, ◌<◌, ◌∙◌, ap, sym, subst, Bool, true, false, not, cond, ◌&&◌, ◌==◌, List, [], ◌∷◌, map, Option, Some, None, refl, eqb-true, eq-eqb, length, leb-true}
+use Rattle.std.specs.Prelude.{ℤ, pos, IsTrue, IsSome, nat_le, slice_get, if◌then◌else◌}
 use Rattle.std.specs.Option.{option_map_or, option_map, option_and_then, is_some}
 use Rattle.std.specs.List.{list_all, list_any, find}
 use Rattle.std.proofs.lemmas.Bool.{and_parts, false≢true}
@@ -16,6 +16,7 @@ use Rattle.prod_model.specs.declared.expr.Expr.TheOpen.{Expr-F, Num, Attr, Count
 use Rattle.prod_model.specs.declared.expr.Expr.TheViews.{out-Expr, roll-Expr, roll-out-Expr}
 use Rattle.prod_model.specs.declared.expr_bounds.Bounds.{Bounds}
 use Rattle.prod_model.specs.declared.expr_bounds.Bounds.TheVariants as bounds
+use Rattle.prod_model.specs.Limits.{most_arguments}
 use Rattle.prod_model.specs.Forest.{is_a, is_type}
 use Rattle.prod_model.specs.Taxonomy.{attribute_of, port_of, declared_port_of, attributes_at, ports_at, with_inverse}
 use Rattle.prod_model.specs.ExprBounds.{bounds_at, bounded, is_number, is_truth, low_of, high_of, sum_of, sum_of_some, sum_of_all, difference, multiple, comparison, truth_of, of_range, is_word_of, has_arguments}
@@ -178,7 +179,10 @@ module _ (m : Model) (is : IsDeclared m) (s : State) (t i : ℕ) (stands : Stand
   parts_roll (Add es) b told =
       let own = map (λ e. bounds_at m e t) es in
       let all = if_some (has_arguments es) (sum_of_all own) b (sym (bounds_at_Add m t es) ∙ told) in
-      each_number (λ e. bounds_at m e t) es (if_true (list_all is_number own) (bounded (sum_of (map low_of own)) (sum_of (map high_of own))) b all)
+      let few = if_true (has_arguments es) (sum_of_all own) b (sym (bounds_at_Add m t es) ∙ told) in (
+        each_number (λ e. bounds_at m e t) es (if_true (list_all is_number own) (bounded (sum_of (map low_of own)) (sum_of (map high_of own))) b all),
+        leb-true (length es) most_arguments (and_parts (nat_le 1 (length es)) (nat_le (length es) most_arguments) few).1,
+      )
   parts_roll (Sub e f) b told = difference_numbers (bounds_at m e t) (bounds_at m f t) b (sym (bounds_at_Sub m t e f) ∙ told)
   parts_roll (Times k e) b told = multiple_number k (bounds_at m e t) b (sym (bounds_at_Times m t k e) ∙ told)
   parts_roll (Cmp r e f) b told = comparison_numbers (bounds_at m e t) (bounds_at m f t) b (sym (bounds_at_Cmp m t r e f) ∙ told)

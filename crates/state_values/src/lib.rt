@@ -5,9 +5,11 @@
 mod interval;
 mod kleene;
 mod leaves;
+mod numbers;
 mod ranged;
 mod shares;
 mod sums;
 
 pub use interval::Interval;
 pub use kleene::Kleene;
+pub use numbers::number_at;

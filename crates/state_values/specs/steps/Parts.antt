@@ -1,11 +1,12 @@
 -- What there is for an expression that has bounds at a type, where it is asked at an instance of a
 -- state.
-use Rattle.std.specs.Prelude.{◌≡◌, ℕ, ◌<◌, IsTrue, IsSome, List, slice_get, Some}
+use Rattle.std.specs.Prelude.{◌≡◌, ℕ, ◌<◌, ◌≤◌, length, IsTrue, IsSome, List, slice_get, Some}
 use Rattle.prod_model.specs.declared.model.Model.{Model}
 use Rattle.prod_model.specs.declared.model.PortAt.{PortAt}
 use Rattle.prod_model.specs.declared.expr.Expr.{Expr}
 use Rattle.prod_model.specs.declared.expr.Expr.TheOpen.{Expr-F, Num, Attr, Count, CountOf, Sum, Total, Number, Add, Sub, Times, Cmp, Is, Kind, And, Or, Not, If, All, Any}
 use Rattle.prod_model.specs.ExprBounds.{bounds_at, is_number, is_truth}
+use Rattle.prod_model.specs.Limits.{most_arguments}
 use Rattle.prod_model.specs.Forest.{is_type}
 use Rattle.prod_model.specs.Taxonomy.{attribute_of, port_of}
 use Rattle.state_space.specs.State.{State, IsState, number_made, domain_at, port_at}
@@ -57,7 +58,7 @@ HasParts m s t i (Sum p a) =
     HasPort m s t i p × AtTarget m t p (λ u. IsSome (attribute_of m u a))
 HasParts m s t i (Total u a) = IsSome (attribute_of m u a)
 HasParts m s t i (Number u) = Unit {0}
-HasParts m s t i (Add es) = AreNumbers m t es
+HasParts m s t i (Add es) = AreNumbers m t es × (length es ≤ most_arguments)
 HasParts m s t i (Sub e f) = IsNumber m t e × IsNumber m t f
 HasParts m s t i (Times k e) = IsNumber m t e
 HasParts m s t i (Cmp r e f) = IsNumber m t e × IsNumber m t f
