@@ -2,3 +2,4 @@ pub mod Ends
 pub mod Added
 pub mod Forms
 pub mod Parts
+pub mod Truths

@@ -9,6 +9,7 @@ mod numbers;
 mod ranged;
 mod shares;
 mod sums;
+mod truth_sets;
 
 pub use interval::Interval;
 pub use kleene::Kleene;
