@@ -2,7 +2,9 @@ pub mod AddedLaws
 pub mod EndsLaws
 pub mod FormSeen
 pub mod KindsTold
+pub mod KleeneTests
 pub mod LeafLaws
+pub mod LinkableLaws
 pub mod NumberLaws
 pub mod OwnBounds
 pub mod PartsThere

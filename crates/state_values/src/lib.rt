@@ -5,6 +5,7 @@
 mod interval;
 mod kleene;
 mod leaves;
+mod links;
 mod numbers;
 mod ranged;
 mod shares;

@@ -1,5 +1,5 @@
 -- Where truths hold and where they fail, in sets of instances.
-use Rattle.std.specs.Prelude.{◌≡◌, ℕ, ◌&&◌, ◌==◌, int_le, int_lt, Bool, true, false, IsTrue, [], if◌then◌else◌}
+use Rattle.std.specs.Prelude.{◌≡◌, ℕ, ◌&&◌, ◌==◌, int_le, int_lt, Bool, true, false, IsTrue, IsSome, [], if◌then◌else◌}
 use Rattle.std.specs.List.{list_all, list_any}
 use Rattle.instance_set.specs.declared.set.InstanceSet.{InstanceSet}
 use Rattle.instance_set.specs.InstanceSets.{is_member}
@@ -8,7 +8,7 @@ use Rattle.prod_model.specs.declared.expr.Expr.{Expr}
 use Rattle.prod_model.specs.declared.expr.Expr.TheOpen.{Expr-F, Cmp, Is, Kind}
 use Rattle.prod_model.specs.declared.expr.Relation.{Relation}
 use Rattle.prod_model.specs.declared.expr.Relation.TheVariants.{Less, AtMost, Equal, Differs, AtLeast, Greater}
-use Rattle.state_space.specs.State.{State}
+use Rattle.state_space.specs.State.{State, port_at}
 use Rattle.state_values.specs.declared.interval.Interval.{Interval}
 use Rattle.state_values.specs.declared.kleene.Kleene.{Kleene}
 use Rattle.state_values.specs.declared.kleene.Kleene.TheVariants.{True, False, Open}
@@ -71,15 +71,19 @@ pub record Tells (among : InstanceSet) (f : ℕ → shown.Kleene) (x : Truths) :
 abbrev pub StandAmong : Model → State → ℕ → InstanceSet → Type 0
 StandAmong m s t among = (i : ℕ) → IsTrue (is_member among i) → Stands m s t i
 
--- every instance that a port may link is one where the truth holds, and it links no later one
-abbrev pub all_hold : State → ℕ → ℕ → Truths → Bool
-all_hold s p i x =
-    list_all (is_member x.holding) (port_state s i p).possible
+-- every instance that a port may link is one of a set, and it links no later one
+abbrev pub links_only : State → ℕ → ℕ → InstanceSet → Bool
+links_only s p i set =
+    list_all (is_member set) (port_state s i p).possible
     && ((port_state s i p).fresh_high == 0)
 
--- some instance that a port must link is one where the truth fails
-abbrev pub some_fails : State → ℕ → ℕ → Truths → Bool
-some_fails s p i x = list_any (is_member x.failing) (port_state s i p).required
+-- some instance that a port must link is one of a set
+abbrev pub links_some : State → ℕ → ℕ → InstanceSet → Bool
+links_some s p i set = list_any (is_member set) (port_state s i p).required
+
+-- each member has the port
+abbrev pub HavePort : State → InstanceSet → ℕ → Type 0
+HavePort s among p = (i : ℕ) → IsTrue (is_member among i) → IsSome (port_at s i p)
 
 -- it is true
 abbrev pub is_told_true : Kleene → Bool
