@@ -22,3 +22,14 @@ mod RackExamples
 mod LowestExamples
 mod ServerExamples
 pub mod WholeDomainLaws
+pub mod AddedLaws
+pub mod EndsLaws
+pub mod FormSeen
+pub mod KindsTold
+pub mod KleeneTests
+pub mod LeafLaws
+pub mod LinkableLaws
+pub mod NumberLaws
+pub mod OwnBounds
+pub mod PartsThere
+pub mod TallySeen

@@ -9,4 +9,5 @@ pub mod Laws
 pub mod KeyStart
 pub mod WholeDomains
 pub mod ReadsLaws
+pub mod Told
 pub mod steps
