@@ -3,3 +3,4 @@ pub mod OwedLaws
 pub mod KindMasks
 pub mod FixedLaws
 pub mod PortParts
+mod ChoiceExamples
