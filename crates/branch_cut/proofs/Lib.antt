@@ -5,3 +5,4 @@ pub mod CutLaws
 pub mod KindMasks
 pub mod FixedLaws
 pub mod PortParts
+mod ChoiceExamples

@@ -1,6 +1,7 @@
 //! What expressions are at the root product, worked out by hand: each form of a number, as the
 //! value of a criterion, and each form of a truth both ways, as a request.
 ghost use Rattle.std.specs.Prelude.{IsTrue};
+ghost use Rattle.prod_model.specs.Valid.{IsValidOrder};
 ghost use Rattle.config_value.specs.Shaped.{is_shaped};
 
 use crate::models::{BUSES, RACKS};
@@ -8,7 +9,7 @@ use crate::satisfying::{order_of, problem_of, satisfying};
 use answer_check::meets;
 use config_value::Configuration;
 use criteria_order::criteria_values;
-use prod_model::Problem;
+use prod_model::{Order, Problem};
 use std::alloc::Global;
 use std::process::Abort;
 use std::test::Fail;
@@ -20,6 +21,29 @@ const RACK_OF_BUSES: &str =
     "preferred\n0 Rack cards:1,2 spare:\n1 Small power=3 bus=sata\n2 Big power=4 bus=sas\n";
 
 /// The value of the one criterion of an order.
+fn only_value(problem: &Problem, order: &Order, c: &Configuration) -> Result<i64, Fail>
+    requires order { IsValidOrder problem.now order.now }
+    requires shaped { IsTrue (is_shaped problem.now c.now) }
+{
+    if order.criteria.len() != 1 {
+        return Err(Fail::from("not one criterion"));
+    }
+    let mut values = [0; 1];
+    criteria_values(problem, order, c, &mut values);
+    Ok(values[0])
+}
+
+/// The value that the criterion of an order file has.
+fn value_in(alloc: Global, problem: &Problem, c: &Configuration, text: &str) -> Result<i64, Fail>
+    requires { IsTrue (is_shaped problem.now c.now) }
+{
+    let order = order_of(alloc, problem, text)?;
+    let value = only_value(problem, &order, c);
+    drop(order);
+    value
+}
+
+/// The value of an expression, as the one criterion of an order.
 fn value(
     alloc: Global,
     problem: &Problem,
@@ -27,18 +51,12 @@ fn value(
     goal: &str,
     e: &str,
 ) -> Result<i64, Fail>
-    requires shaped { IsTrue (is_shaped problem.now c.now) }
+    requires { IsTrue (is_shaped problem.now c.now) }
 {
     let text = format!(in alloc;
         "{{\"format\":\"order 1\",\"criteria\":[{{\"name\":\"n\",\"{goal}\":{e}}}]}}"
     )?;
-    let order = order_of(alloc, problem, &text)?;
-    if order.criteria.len() != 1 {
-        return Err(Fail::from("not one criterion"));
-    }
-    let mut values = [0; 1];
-    criteria_values(problem, &order, c, &mut values);
-    Ok(values[0])
+    value_in(alloc, problem, c, &text)
 }
 
 /// How a criterion goes, its expression, and its value.
@@ -68,34 +86,56 @@ fn check_each_number(
     requires shaped { IsTrue (is_shaped problem.now c.now) }
 {
     for (goal, e, want) in &NUMBERS {
-        assert_eq!(rt; value(alloc, problem, c, goal, e)?, *want, "{goal} {e}");
+        let told = value(alloc, problem, c, goal, e)?;
+        assert_eq!(rt; told, *want, "{goal} {e}");
     }
     Ok(())
 }
 
 fn check_numbers(rt: &impl Abort, alloc: Global, problem: &Problem) -> Result<(), Fail> {
     let c = satisfying(alloc, problem, RACK)?;
-    check_each_number(rt, alloc, problem, &c)
+    let checked = check_each_number(rt, alloc, problem, &c);
+    drop(c);
+    checked
 }
 
 #[test]
 fn tells_numbers(rt: HostRuntime) -> Result<(), Fail> {
     let problem = problem_of(rt.alloc(), RACKS)?;
-    check_numbers(&rt, rt.alloc(), &problem)
+    let checked = check_numbers(&rt, rt.alloc(), &problem);
+    drop(problem);
+    checked
 }
 
 /// Whether the configuration meets the one request of an order.
-fn is_met(alloc: Global, problem: &Problem, c: &Configuration, e: &str) -> Result<bool, Fail>
+fn meets_only(problem: &Problem, order: &Order, c: &Configuration) -> Result<bool, Fail>
+    requires order { IsValidOrder problem.now order.now }
     requires shaped { IsTrue (is_shaped problem.now c.now) }
+{
+    if order.requests.len() != 1 {
+        return Err(Fail::from("not one request"));
+    }
+    Ok(meets(problem, order, 0, c))
+}
+
+/// Whether it meets that of an order file.
+fn meets_in(alloc: Global, problem: &Problem, c: &Configuration, text: &str) -> Result<bool, Fail>
+    requires { IsTrue (is_shaped problem.now c.now) }
+{
+    let order = order_of(alloc, problem, text)?;
+    let met = meets_only(problem, &order, c);
+    drop(order);
+    met
+}
+
+/// Whether a truth holds, as the one request of an order.
+fn is_met(alloc: Global, problem: &Problem, c: &Configuration, e: &str) -> Result<bool, Fail>
+    requires { IsTrue (is_shaped problem.now c.now) }
 {
     let text = format!(in alloc;
         "{{\"format\":\"order 1\",\"requests\":[{{\"name\":\"wish\",\"holds\":{e}}}]}}"
     )?;
-    let order = order_of(alloc, problem, &text)?;
-    if order.requests.len() != 1 {
-        return Err(Fail::from("not one request"));
-    }
-    Ok(meets(problem, &order, 0, c))
+    meets_in(alloc, problem, c, &text)
 }
 
 /// A truth, and whether it holds.
@@ -111,7 +151,8 @@ fn check_each_truth(
     requires shaped { IsTrue (is_shaped problem.now c.now) }
 {
     for (e, want) in rows {
-        assert_eq!(rt; is_met(alloc, problem, c, e)?, *want, "{e}");
+        let told = is_met(alloc, problem, c, e)?;
+        assert_eq!(rt; told, *want, "{e}");
     }
     Ok(())
 }
@@ -123,12 +164,16 @@ fn check_truths_of(
     rows: &[Truth],
 ) -> Result<(), Fail> {
     let c = satisfying(alloc, problem, RACK_OF_BUSES)?;
-    check_each_truth(rt, alloc, problem, &c, rows)
+    let checked = check_each_truth(rt, alloc, problem, &c, rows);
+    drop(c);
+    checked
 }
 
 fn check_truths(rt: &impl Abort, alloc: Global, rows: &[Truth]) -> Result<(), Fail> {
     let problem = problem_of(alloc, BUSES)?;
-    check_truths_of(rt, alloc, &problem, rows)
+    let checked = check_truths_of(rt, alloc, &problem, rows);
+    drop(problem);
+    checked
 }
 
 /// The powers of the cards sum up to 7.

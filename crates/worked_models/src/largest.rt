@@ -74,6 +74,9 @@ fn checks_a_mesh(rt: HostRuntime) -> Result<(), Fail> {
         instance: 0,
         item: 999,
     };
-    assert_eq!(rt; check(&problem, &answer), want);
+    let told = check(&problem, &answer);
+    drop(answer);
+    drop(problem);
+    assert_eq!(rt; told, want);
     Ok(())
 }

@@ -1,11 +1,13 @@
 //! The order of configurations by criteria and then by key, worked out by hand.
 ghost use Rattle.std.specs.Prelude.{IsTrue};
+ghost use Rattle.prod_model.specs.Valid.{IsValidOrder};
 ghost use Rattle.config_value.specs.Shaped.{is_shaped};
 
 use crate::models::RACKS;
 use crate::satisfying::{order_of, problem_of, satisfying};
+use config_value::Configuration;
 use criteria_order::rank_cmp;
-use prod_model::Problem;
+use prod_model::{Order, Problem};
 use std::alloc::Global;
 use std::cmp::Ordering;
 use std::process::Abort;
@@ -68,16 +70,41 @@ const ROWS: [Row; 14] = [
     (FEWEST_THEN_STRONGEST, EMPTY, BOTH, Ordering::Less),
 ];
 
-fn ranks(alloc: Global, problem: &Problem, row: &Row) -> Result<Ordering, Fail> {
+/// How the first answer ranks beside the second.
+fn rank_of(
+    alloc: Global,
+    problem: &Problem,
+    order: &Order,
+    first: &Configuration,
+    second: &str,
+) -> Result<Ordering, Fail>
+    requires order { IsValidOrder problem.now order.now }
+    requires shaped { IsTrue (is_shaped problem.now first.now) }
+{
+    let second = satisfying(alloc, problem, second)?;
+    Ok(rank_cmp(problem, order, first, &second))
+}
+
+fn rank_by(alloc: Global, problem: &Problem, order: &Order, row: &Row) -> Result<Ordering, Fail>
+    requires { IsValidOrder problem.now order.now }
+{
+    let first = satisfying(alloc, problem, row.1)?;
+    let told = rank_of(alloc, problem, order, &first, row.2);
+    drop(first);
+    told
+}
+
+fn rank(alloc: Global, problem: &Problem, row: &Row) -> Result<Ordering, Fail> {
     let order = order_of(alloc, problem, row.0)?;
-    let a = satisfying(alloc, problem, row.1)?;
-    let b = satisfying(alloc, problem, row.2)?;
-    Ok(rank_cmp(problem, &order, &a, &b))
+    let told = rank_by(alloc, problem, &order, row);
+    drop(order);
+    told
 }
 
 fn check_ranks(rt: &impl Abort, alloc: Global, problem: &Problem) -> Result<(), Fail> {
     for row in &ROWS {
-        assert_eq!(rt; ranks(alloc, problem, row)?, row.3, "{row:?}");
+        let told = rank(alloc, problem, row)?;
+        assert_eq!(rt; told, row.3, "{row:?}");
     }
     Ok(())
 }
@@ -85,5 +112,7 @@ fn check_ranks(rt: &impl Abort, alloc: Global, problem: &Problem) -> Result<(), 
 #[test]
 fn ranks_by_criteria_and_then_by_key(rt: HostRuntime) -> Result<(), Fail> {
     let problem = problem_of(rt.alloc(), RACKS)?;
-    check_ranks(&rt, rt.alloc(), &problem)
+    let checked = check_ranks(&rt, rt.alloc(), &problem);
+    drop(problem);
+    checked
 }

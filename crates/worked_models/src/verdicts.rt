@@ -14,12 +14,16 @@ use std::test::Fail;
 /// The verdict on an answer whose lines these are.
 fn verdict_of(alloc: Global, problem: &Problem, lines: &str) -> Result<Verdict, Fail> {
     let answer = answer_of(alloc, problem, lines)?;
-    Ok(check(problem, &answer))
+    let told = check(problem, &answer);
+    drop(answer);
+    Ok(told)
 }
 
 fn verdict(alloc: Global, model: &str, lines: &str) -> Result<Verdict, Fail> {
     let problem = problem_of(alloc, model)?;
-    verdict_of(alloc, &problem, lines)
+    let told = verdict_of(alloc, &problem, lines);
+    drop(problem);
+    told
 }
 
 /// The answer has the verdict that is wanted.

@@ -1,13 +1,14 @@
 //! The first state of a worked rack: what it entails, and what fits it.
 ghost use Rattle.state_space.specs.State.{IsState};
 
-use crate::models::RACKS;
-use crate::satisfying::problem_of;
 use config_value::Literal;
 use partial_state::Partial;
 use prod_model::Problem;
+use std::alloc::Global;
 use std::process::Abort;
 use std::test::Fail;
+use worked_models::models::RACKS;
+use worked_models::satisfying::problem_of;
 
 // Types count from `Item` 0, `Rack` 1, `Card` 2, `Small` 3 to `Big` 4, the attributes are price 0
 // and power 1, and the port is cards 0.
@@ -332,10 +333,16 @@ fn check_first_state(rt: &impl Abort, problem: &Problem, p: &Partial)
     check_fitting(rt, problem, p);
 }
 
+fn check_root(rt: &impl Abort, alloc: Global, problem: &Problem) -> Result<(), Fail> {
+    let p = Partial::root(alloc, problem)?;
+    check_first_state(rt, problem, &p);
+    Ok(())
+}
+
 #[test]
 fn begins_with_one_rack(rt: HostRuntime) -> Result<(), Fail> {
     let problem = problem_of(rt.alloc(), RACKS)?;
-    let p = Partial::root(rt.alloc(), &problem)?;
-    check_first_state(&rt, &problem, &p);
-    Ok(())
+    let checked = check_root(&rt, rt.alloc(), &problem);
+    drop(problem);
+    checked
 }

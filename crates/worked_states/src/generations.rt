@@ -3,13 +3,14 @@ ghost use Rattle.state_space.specs.State.{IsState};
 
 use crate::changes::take;
 use crate::first_state::{Entailed, check_entailed};
-use crate::models::RACKS;
-use crate::satisfying::problem_of;
 use config_value::Literal;
 use partial_state::{ChangeLog, Partial};
 use prod_model::Problem;
+use std::alloc::Global;
 use std::process::Abort;
 use std::test::Fail;
+use worked_models::models::RACKS;
+use worked_models::satisfying::problem_of;
 
 // Types count from `Item` 0, `Rack` 1, `Card` 2, `Small` 3 to `Big` 4, the attributes are price 0
 // and power 1, and the port is cards 0.
@@ -173,17 +174,47 @@ fn check_copied(rt: &impl Abort, problem: &Problem, p: &Partial) -> Result<(), F
     requires { IsState problem.now p.now }
 {
     let copy = p.copy()?;
-    check_made(rt, problem, &copy)
+    let checked = check_made(rt, problem, &copy);
+    drop(copy);
+    checked
+}
+
+/// Makes a card that is owed.
+fn make_card(alloc: Global, problem: &Problem, p: &mut Partial) -> Result<(), Fail>
+    requires { IsState problem.now p.old }
+    ensures { IsState problem.now p.new }
+{
+    let mut log = ChangeLog::new(alloc);
+    let taken = take(problem, p, &OWED, &mut log);
+    drop(log);
+    taken?;
+    generate(problem, p)
+}
+
+fn check_generation(
+    rt: &impl Abort,
+    alloc: Global,
+    problem: &Problem,
+    p: &mut Partial,
+) -> Result<(), Fail>
+    requires { IsState problem.now p.old }
+{
+    make_card(alloc, problem, p)?;
+    check_made(rt, problem, p)?;
+    check_copied(rt, problem, p)
+}
+
+fn check_card(rt: &impl Abort, alloc: Global, problem: &Problem) -> Result<(), Fail> {
+    let mut p = Partial::root(alloc, problem)?;
+    let checked = check_generation(rt, alloc, problem, &mut p);
+    drop(p);
+    checked
 }
 
 #[test]
 fn makes_a_card(rt: HostRuntime) -> Result<(), Fail> {
-    let alloc = rt.alloc();
-    let problem = problem_of(alloc, RACKS)?;
-    let mut p = Partial::root(alloc, &problem)?;
-    let mut log = ChangeLog::new(alloc);
-    take(&problem, &mut p, &OWED, &mut log)?;
-    generate(&problem, &mut p)?;
-    check_made(&rt, &problem, &p)?;
-    check_copied(&rt, &problem, &p)
+    let problem = problem_of(rt.alloc(), RACKS)?;
+    let checked = check_card(&rt, rt.alloc(), &problem);
+    drop(problem);
+    checked
 }

@@ -7,8 +7,6 @@ ghost use Rattle.config_value.specs.Satisfies.{meets as meets_of};
 ghost use Rattle.config_value.specs.Shaped.{is_shaped};
 ghost use Rattle.literal_book.specs.Nogoods.{asks_for};
 
-use crate::models::BUSES;
-use crate::satisfying::{order_of, problem_of, satisfying};
 use answer_check::meets;
 use config_value::{Configuration, Literal};
 use literal_book::{Literals, Nogood, excludes, within};
@@ -16,6 +14,8 @@ use prod_model::{Order, Problem};
 use std::alloc::{AllocError, Global};
 use std::process::Abort;
 use std::test::Fail;
+use worked_models::models::BUSES;
+use worked_models::satisfying::{order_of, problem_of, satisfying};
 
 const RACK: &str =
     "preferred\n0 Rack cards:1,2 spare:\n1 Small power=3 bus=sata\n2 Big power=4 bus=sas\n";
@@ -65,6 +65,24 @@ const EXCLUDING: [Excluding; 8] = [
     (MET, 0, &[SECOND_CARD, THIRD_CARD], false),
 ];
 
+fn excludes_by(
+    alloc: Global,
+    problem: &Problem,
+    order: &Order,
+    c: &Configuration,
+    row: &Excluding,
+) -> Result<bool, Fail>
+    requires order { IsValidOrder problem.now order.now }
+    requires shaped { IsTrue (is_shaped problem.now c.now) }
+{
+    if order.requests.len() != 1 {
+        return Err(Fail::from("not one request"));
+    }
+    let nogood = nogood_of(alloc, row.1, row.2)?.copy(alloc)?;
+    let met = met_of(problem, order, c);
+    Ok(excludes(problem, order, &nogood, met, c))
+}
+
 fn is_excluded(
     alloc: Global,
     problem: &Problem,
@@ -74,12 +92,9 @@ fn is_excluded(
     requires shaped { IsTrue (is_shaped problem.now c.now) }
 {
     let order = order_of(alloc, problem, row.0)?;
-    if order.requests.len() != 1 {
-        return Err(Fail::from("not one request"));
-    }
-    let nogood = nogood_of(alloc, row.1, row.2)?.copy(alloc)?;
-    let met = met_of(problem, &order, c);
-    Ok(excludes(problem, &order, &nogood, met, c))
+    let excluded = excludes_by(alloc, problem, &order, c, row);
+    drop(order);
+    excluded
 }
 
 fn check_each(
@@ -98,13 +113,17 @@ fn check_each(
 
 fn check_excluding(rt: &impl Abort, alloc: Global, problem: &Problem) -> Result<(), Fail> {
     let c = satisfying(alloc, problem, RACK)?;
-    check_each(rt, alloc, problem, &c)
+    let checked = check_each(rt, alloc, problem, &c);
+    drop(c);
+    checked
 }
 
 #[test]
 fn excludes_what_meets_and_has_all(rt: HostRuntime) -> Result<(), Fail> {
     let problem = problem_of(rt.alloc(), BUSES)?;
-    check_excluding(&rt, rt.alloc(), &problem)
+    let checked = check_excluding(&rt, rt.alloc(), &problem);
+    drop(problem);
+    checked
 }
 
 /// The requests and literals of a nogood, given literals, the requests that are kept, and whether

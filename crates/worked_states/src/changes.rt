@@ -1,17 +1,18 @@
-//! What each change of a worked rack's states does and logs, and going back.
-ghost use Rattle.std.specs.Prelude.{◌≡◌};
+//! What each change of a worked rack's states does and logs, down to one configuration.
+ghost use Rattle.std.specs.Prelude.{IsTrue};
+ghost use Rattle.config_value.specs.Spelled.{is_spelled};
 ghost use Rattle.state_space.specs.State.{IsState};
 
-use crate::models::RACKS;
-use crate::satisfying::problem_of;
 use canonical_form::write_answer;
-use config_value::Literal;
+use config_value::{Configuration, Literal};
 use domain_store::Change;
 use partial_state::{ChangeLog, Partial};
 use prod_model::Problem;
 use std::alloc::Global;
 use std::process::Abort;
 use std::test::Fail;
+use worked_models::models::RACKS;
+use worked_models::satisfying::problem_of;
 
 // Types count from `Item` 0, `Rack` 1, `Card` 2, `Small` 3 to `Big` 4, the attributes are price 0
 // and power 1, and the port is cards 0.
@@ -187,7 +188,24 @@ pub(crate) fn take(
     Ok(p.change(problem, literal, log)?)
 }
 
-fn take_all(
+fn take_step(
+    rt: &impl Abort,
+    problem: &Problem,
+    p: &mut Partial,
+    log: &mut ChangeLog,
+    step: &Step,
+) -> Result<(), Fail>
+    requires { IsState problem.now p.old }
+    ensures { IsState problem.now p.new }
+{
+    let (literal, want, logged) = step;
+    let told = take(problem, p, literal, log)?;
+    assert_eq!(rt; told, *want, "{literal:?}");
+    assert_eq!(rt; log.len(), *logged, "{literal:?}");
+    Ok(())
+}
+
+pub(crate) fn take_all(
     rt: &impl Abort,
     problem: &Problem,
     p: &mut Partial,
@@ -196,14 +214,26 @@ fn take_all(
     requires { IsState problem.now p.old }
     ensures { IsState problem.now p.new }
 {
-    for (literal, want, logged) in &STEPS {
-        assert_eq!(rt; take(problem, p, literal, log)?, *want, "{literal:?}");
-        assert_eq!(rt; log.len(), *logged, "{literal:?}");
+    for step in &STEPS {
+        take_step(rt, problem, p, log, step)?;
     }
     Ok(())
 }
 
-/// The only configuration that is left.
+/// The answer is that of the only configuration that is left.
+fn check_text(
+    rt: &impl Abort,
+    alloc: Global,
+    problem: &Problem,
+    c: &Configuration,
+) -> Result<(), Fail>
+    requires { IsTrue (is_spelled problem.now c.now) }
+{
+    let text = write_answer(alloc, problem, c)?;
+    assert_eq!(rt; text.as_slice(), LEFT.as_bytes());
+    Ok(())
+}
+
 fn check_left(rt: &impl Abort, alloc: Global, problem: &Problem, p: &Partial) -> Result<(), Fail>
     requires { IsState problem.now p.now }
 {
@@ -211,121 +241,32 @@ fn check_left(rt: &impl Abort, alloc: Global, problem: &Problem, p: &Partial) ->
         return Err(Fail::from("it is not whole"));
     }
     let c = p.to_configuration(problem)?;
-    let text = write_answer(alloc, problem, &c)?;
-    assert_eq!(rt; text.as_slice(), LEFT.as_bytes());
-    Ok(())
+    let checked = check_text(rt, alloc, problem, &c);
+    drop(c);
+    checked
+}
+
+fn narrow(rt: &impl Abort, alloc: Global, problem: &Problem, p: &mut Partial) -> Result<(), Fail>
+    requires { IsState problem.now p.old }
+{
+    let mut log = ChangeLog::new(alloc);
+    let taken = take_all(rt, problem, p, &mut log);
+    drop(log);
+    taken?;
+    check_left(rt, alloc, problem, p)
+}
+
+fn check_changes(rt: &impl Abort, alloc: Global, problem: &Problem) -> Result<(), Fail> {
+    let mut p = Partial::root(alloc, problem)?;
+    let checked = narrow(rt, alloc, problem, &mut p);
+    drop(p);
+    checked
 }
 
 #[test]
 fn is_narrowed_to_one_configuration(rt: HostRuntime) -> Result<(), Fail> {
-    let alloc = rt.alloc();
-    let problem = problem_of(alloc, RACKS)?;
-    let mut p = Partial::root(alloc, &problem)?;
-    let mut log = ChangeLog::new(alloc);
-    take_all(&rt, &problem, &mut p, &mut log)?;
-    check_left(&rt, alloc, &problem, &p)
-}
-
-/// Changes the state by a literal that fits, and goes back.
-fn take_and_go_back(
-    problem: &Problem,
-    p: &mut Partial,
-    literal: &Literal,
-    log: &mut ChangeLog,
-) -> Result<u32, Fail>
-    requires { IsState problem.now p.old }
-    ensures { p.new ≡ p.old }
-{
-    let len = log.len();
-    if !p.fits(problem, literal) {
-        return Err(Fail::from("it does not fit"));
-    }
-    p.change(problem, literal, log)?;
-    let made = p.made();
-    p.undo(log, len);
-    Ok(made)
-}
-
-/// A literal, and how many instances are made while it is taken.
-type Back = (Literal, u32);
-
-/// Each is taken from the state that one card is owed, which stands again afterwards.
-const BACK: [Back; 5] = [
-    (
-        Literal::AtLeast {
-            instance: 0,
-            attr: 0,
-            value: 50,
-        },
-        1,
-    ),
-    (
-        Literal::ValueIsNot {
-            instance: 0,
-            attr: 0,
-            value: 50,
-        },
-        1,
-    ),
-    (Literal::Made { instance: 1 }, 2),
-    (
-        Literal::FreshAtMost {
-            instance: 0,
-            port: 0,
-            from: 1,
-            count: 1,
-        },
-        1,
-    ),
-    (Literal::Made { instance: 1 }, 2),
-];
-
-fn check_back(
-    rt: &impl Abort,
-    problem: &Problem,
-    p: &mut Partial,
-    log: &mut ChangeLog,
-) -> Result<(), Fail>
-    requires { IsState problem.now p.old }
-{
-    for (literal, want) in &BACK {
-        assert_eq!(rt;
-            take_and_go_back(problem, p, literal, log)?,
-            *want,
-            "{literal:?}"
-        );
-        assert_eq!(rt; p.made(), 1, "{literal:?}");
-        assert_eq!(rt; log.len(), 1, "{literal:?}");
-    }
-    Ok(())
-}
-
-#[test]
-fn goes_back(rt: HostRuntime) -> Result<(), Fail> {
-    let alloc = rt.alloc();
-    let problem = problem_of(alloc, RACKS)?;
-    let mut p = Partial::root(alloc, &problem)?;
-    let mut log = ChangeLog::new(alloc);
-    let owed = Literal::FreshAtLeast {
-        instance: 0,
-        port: 0,
-        from: 1,
-        count: 1,
-    };
-    take(&problem, &mut p, &owed, &mut log)?;
-    check_back(&rt, &problem, &mut p, &mut log)
-}
-
-#[test]
-fn goes_back_over_all(rt: HostRuntime) -> Result<(), Fail> {
-    let alloc = rt.alloc();
-    let problem = problem_of(alloc, RACKS)?;
-    let mut p = Partial::root(alloc, &problem)?;
-    let mut log = ChangeLog::new(alloc);
-    take_all(&rt, &problem, &mut p, &mut log)?;
-    assert_eq!(rt; p.made(), 2);
-    p.undo(&mut log, 0);
-    assert_eq!(rt; p.made(), 1);
-    assert_eq!(rt; log.len(), 0);
-    Ok(())
+    let problem = problem_of(rt.alloc(), RACKS)?;
+    let checked = check_changes(&rt, rt.alloc(), &problem);
+    drop(problem);
+    checked
 }

@@ -1,12 +1,12 @@
 //! Which literals hold in a worked configuration.
-use crate::models::BUSES;
-use crate::satisfying::{answer_of, problem_of};
 use config_value::{Configuration, Literal};
 use literal_book::holds_in;
 use prod_model::Problem;
 use std::alloc::Global;
 use std::process::Abort;
 use std::test::Fail;
+use worked_models::models::BUSES;
+use worked_models::satisfying::{answer_of, problem_of};
 
 /// Types count from `Item` 0, `Rack` 1, `Card` 2, `Small` 3 to `Big` 4, the attributes are power 0
 /// and bus 1, and the ports cards 0 and spare 1.
@@ -335,11 +335,22 @@ fn check_rows(rt: &impl Abort, problem: &Problem, c: &Configuration, rows: &[Row
     }
 }
 
+fn check_in_rack(
+    rt: &impl Abort,
+    alloc: Global,
+    problem: &Problem,
+    rows: &[Row],
+) -> Result<(), Fail> {
+    let c = answer_of(alloc, problem, RACK)?;
+    check_rows(rt, problem, &c, rows);
+    Ok(())
+}
+
 fn check_literals(rt: &impl Abort, alloc: Global, rows: &[Row]) -> Result<(), Fail> {
     let problem = problem_of(alloc, BUSES)?;
-    let c = answer_of(alloc, &problem, RACK)?;
-    check_rows(rt, &problem, &c, rows);
-    Ok(())
+    let checked = check_in_rack(rt, alloc, &problem, rows);
+    drop(problem);
+    checked
 }
 
 #[test]
