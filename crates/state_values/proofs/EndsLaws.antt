@@ -1,9 +1,8 @@
 -- Laws of the ends of numbers.
-use Rattle.std.proofs.Common.{◌≡◌, ℤ, pos, negsuc, ◌*ℤ◌, ◌≤ℤ◌, refl, sym, ap, Bool, true, false, arith}
+use Rattle.std.proofs.Common.{◌≡◌, ℤ, pos, negsuc, ◌*ℤ◌, ◌≤ℤ◌, refl, sym, ap, Bool, false, arith}
 use Rattle.std.specs.Prelude.{int_lt, if◌then◌else◌}
 use Rattle.std.proofs.lemmas.Int.{ints}
 use Rattle.state_values.specs.declared.interval.Interval.{Interval}
-use Rattle.state_values.specs.declared.interval.Ends.{Ends}
 use Rattle.state_values.specs.steps.Ends.{multiple_ends}
 
 -- a number from 0 on is not below 0

@@ -1,17 +1,16 @@
 -- An expression is seen as its form is, brought into its own bounds.
-use Rattle.std.proofs.Common.{◌≡◌, ℕ, ℤ, pos, ◌+ℤ◌, ◌∙◌, ap, ap₂, sym, Bool, true, false, cond, List, [], ◌∷◌, map, Some, refl, arith}
+use Rattle.std.proofs.Common.{◌≡◌, ℕ, ℤ, pos, ◌+ℤ◌, ◌∙◌, ap, ap₂, sym, List, [], ◌∷◌, map, Some, refl, arith}
 use Rattle.std.specs.List.{fold}
 use Rattle.std.proofs.lemmas.Int.{ints}
 use Rattle.std.proofs.lemmas.Simd.{map-map}
 use Rattle.prod_model.specs.declared.model.Model.{Model}
 use Rattle.prod_model.specs.declared.expr.Expr.{Expr}
 use Rattle.prod_model.specs.declared.expr.Expr.TheOpen.{Expr-F, Num, Attr, Count, CountOf, Sum, Total, Number, Add, Sub, Times, Cmp, Is, Kind, And, Or, Not, If, All, Any}
-use Rattle.prod_model.specs.declared.expr.Expr.TheViews.{out-Expr, roll-Expr, roll-out-Expr}
+use Rattle.prod_model.specs.declared.expr.Expr.TheViews.{out-Expr, roll-out-Expr}
 use Rattle.prod_model.specs.declared.expr_bounds.Bounds.TheVariants as bounds
 use Rattle.prod_model.specs.ExprBounds.{bounds_at, sum_of}
 use Rattle.state_space.specs.State.{State}
 use Rattle.state_values.specs.declared.interval.Interval.{Interval}
-use Rattle.state_values.specs.declared.interval.Ends.{Ends}
 use Rattle.state_values.specs.Ranges.{Range, ranges_sum}
 use Rattle.state_values.specs.Seen.{Seen, Part, as_range, seen_at, low, high, within_bounds}
 use Rattle.state_values.specs.Seen as seen

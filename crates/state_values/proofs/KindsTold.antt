@@ -1,5 +1,5 @@
 -- What a state entails of the types of a made instance.
-use Rattle.std.proofs.Common.{◌≡◌, ℕ, ◌<◌, ◌≤◌, ◌∙◌, ap, sym, Bool, false, not, ◌&&◌, ◌||◌, refl, Option, Some, inl, inr, List, [], ◌∷◌, length, arith}
+use Rattle.std.proofs.Common.{◌≡◌, ℕ, ◌<◌, ◌∙◌, ap, sym, Bool, false, not, ◌&&◌, ◌||◌, refl, Option, Some, inl, inr, List, [], ◌∷◌, length, arith}
 use Rattle.std.specs.Prelude.{slice_get}
 use Rattle.std.specs.Option.{option_map_or}
 use Rattle.std.specs.List.{list_all, list_any}

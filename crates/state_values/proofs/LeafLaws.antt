@@ -1,9 +1,11 @@
 -- What counts, sums and totals are seen to be.
-use Rattle.std.proofs.Common.{◌≡◌, ◌≢◌, ℕ, ℤ, pos, ◌<◌, ◌-◌, ◌∙◌, ap, sym, Bool, true, false, not, ◌&&◌, ◌==◌, List, [], ◌∷◌, length, Some, refl, zero-add, bit_and, ◌^◌, ltb-true, eqb-true, zero, suc, arith}
-use Rattle.std.specs.Prelude.{IsTrue, IsSome, nat_lt, if◌then◌else◌}
+use Rattle.std.proofs.Common.{◌≡◌, ◌≢◌, ℕ, ℤ, pos, ◌<◌, ◌∙◌, ap, sym, subst, refl, Option, Some, None, Bool, true, false, not, ◌&&◌, ◌==◌, List, length, zero-add, bit_and, ◌^◌, ltb-true, eqb-true, zero, suc, arith}
+use Rattle.std.specs.Prelude.{IsTrue, IsSome, if◌then◌else◌}
 use Rattle.std.specs.Int.{bit_at, w128, trailing_zeros}
-use Rattle.std.specs.List.{list_all, list_any}
-use Rattle.std.proofs.lemmas.Bool.{and_parts, and_from, false≢true, false_from_ne_true}
+use Rattle.std.specs.List.{list_any}
+use Rattle.std.proofs.lemmas.Bool.{and_parts, and_from, false≢true}
+use Rattle.std.specs.Option.{option_map}
+use Rattle.std.proofs.lemmas.Option.{same_Some, none-some}
 use Rattle.std.proofs.lemmas.Nat.Bits.{bit_at-trailing_zeros}
 use Rattle.std.specs.Int.Bits.{and_lt}
 use Rattle.base_laws.proofs.Ranges.{slice_get_range_with_len}
@@ -15,7 +17,8 @@ use Rattle.prod_model.specs.declared.model.Model.{Model}
 use Rattle.prod_model.specs.declared.model.PortAt.{PortAt}
 use Rattle.prod_model.specs.declared.expr.Expr.TheOpen.{Count, CountOf, Sum, Total, Number}
 use Rattle.prod_model.specs.Forest.{is_a, is_leaf, is_type, type_numbers}
-use Rattle.prod_model.specs.Taxonomy.{attribute_of, port_of}
+use Rattle.prod_model.specs.Taxonomy.{attribute_of, port_of, declared_port_of, with_inverse}
+use Rattle.state_values.proofs.OwnBounds.{port_declared}
 use Rattle.prod_model.specs.TypeMasks.{IsMask}
 use Rattle.prod_model.specs.Valid.{IsDeclared}
 use Rattle.config_value.specs.declared.literal.Literal.{Literal}
@@ -56,6 +59,20 @@ module _ (m : Model) (is : IsDeclared m) (s : State) (state : IsState m s) (a u 
   pub value_under_type : told (under_type m s u j) ≢ kleene.False → IsSome (domain_at s j a)
   value_under_type counted = domain_there m is s state j made u (counted_maybe (is_surely_under m s u j) (is_maybe_under m s u j) _ _ (maybe_there m is s state j made u) counted) a known
 
+-- ---- ports as they are declared
+
+-- a port is one that is declared, with its inverse beside it
+declared_there : (m : Model) (t p : ℕ) (d : PortAt) → port_of m t p ≡ Some d
+    → (e : PortAt) × (declared_port_of m t p ≡ Some e) × (d.target ≡ e.target)
+declared_there m t p d found =
+    by (declared_port_of m t p) refl (sym (port_declared m t p) ∙ found)
+  where
+    by : (o : Option PortAt) → declared_port_of m t p ≡ o → option_map (with_inverse m) o ≡ Some d
+        → (e : PortAt) × (declared_port_of m t p ≡ Some e) × (d.target ≡ e.target)
+    by None is mapped = absurd (none-some d mapped)
+    by (Some e) is mapped =
+        (e, is, sym (ap (λ (x : PortAt). x.target) (same_Some (with_inverse m e) d mapped)))
+
 -- ---- what is seen
 
 module _ (m : Model) (s : State) (t i : ℕ) (rest : Unmade) (seen : Ends) where
@@ -77,12 +94,26 @@ module _ (m : Model) (s : State) (t i : ℕ) (rest : Unmade) (seen : Ends) where
       pub count_of_is : (u : ℕ) → rest ≡ fresh_links (one_if (is_a m d.target u)) (one_if (share_leaf m u d.target)) → seen ≡ tally_ends m s (LinksUnder q u) rest
           → seen ≡ ends_of (as_range (form_seen m s t i (CountOf p u)))
       count_of_is u rest_is seen_is =
-          rw found (seen_is ∙ ap (tally_ends m s (LinksUnder q u)) rest_is ∙ sym (count_of_tallied m s i p q at u (one_if (is_a m d.target u)) (one_if (share_leaf m u d.target))))
+          let e = declared_there m t p d found in
+          let low = one_if (is_a m e.0.target u) in
+          let high = one_if (share_leaf m u e.0.target) in
+          let rest_there : rest ≡ fresh_links low high =
+          subst (λ k. rest ≡ fresh_links (one_if (is_a m k u)) (one_if (share_leaf m u k))) e.2 rest_is in
+          rw e.1 (seen_is ∙ ap (tally_ends m s (LinksUnder q u)) rest_there
+          ∙ sym (count_of_tallied m s i p q at u low high))
 
       pub sum_is : (a : ℕ) → rest ≡ fresh_links (or_zero (least_at m d.target a)) (or_zero (greatest_at m d.target a)) → seen ≡ tally_ends m s (LinkedValues q d.target a) rest
           → seen ≡ ends_of (as_range (form_seen m s t i (Sum p a)))
       sum_is a rest_is seen_is =
-          rw found (seen_is ∙ ap (tally_ends m s (LinkedValues q d.target a)) rest_is ∙ sym (sum_tallied m s i p q at d.target a (or_zero (least_at m d.target a)) (or_zero (greatest_at m d.target a))))
+          let e = declared_there m t p d found in
+          let low = or_zero (least_at m e.0.target a) in
+          let high = or_zero (greatest_at m e.0.target a) in
+          let rest_there : rest ≡ fresh_links low high =
+          subst (λ k. rest ≡ fresh_links (or_zero (least_at m k a)) (or_zero (greatest_at m k a))) e.2 rest_is in
+          let seen_there : seen ≡ tally_ends m s (LinkedValues q e.0.target a) rest =
+          subst (λ k. seen ≡ tally_ends m s (LinkedValues q k a) rest) e.2 seen_is in
+          rw e.1 (seen_there ∙ ap (tally_ends m s (LinkedValues q e.0.target a)) rest_there
+          ∙ sym (sum_tallied m s i p q at e.0.target a low high))
 
 -- ---- leaves under two types
 

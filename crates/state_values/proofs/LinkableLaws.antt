@@ -1,9 +1,7 @@
 -- Loops over the members of a set, and the links of a port as sets.
-use Rattle.std.proofs.Common.{◌≡◌, ℕ, ◌+◌, ◌<◌, ◌∙◌, ap, sym, subst, Bool, true, false, ◌&&◌, ◌||◌, ◌==◌, not, nat_lt, List, [], ◌∷◌, Some, None, inl, inr, refl, ltb-true, arith}
-use Rattle.std.specs.Prelude.{◌↔◌, IsTrue, IsSome, slice_get}
-use Rattle.std.specs.Option.{option_and_then}
+use Rattle.std.proofs.Common.{◌≡◌, ℕ, ◌+◌, ◌<◌, ◌∙◌, ap, sym, subst, Bool, true, false, ◌&&◌, ◌||◌, ◌==◌, not, nat_lt, List, Some, inl, inr, refl, ltb-true, arith}
+use Rattle.std.specs.Prelude.{◌↔◌, IsTrue, slice_get}
 use Rattle.std.specs.List.{list_all, list_any}
-use Rattle.std.proofs.Math.Bool.{or-false}
 use Rattle.std.proofs.lemmas.Bool.{and_parts, and_from, or_cases, or_left, or_right, false≢true, false_from_ne_true, cases_lt}
 use Rattle.base_laws.proofs.Tests.{list_all_from, list_any_at, list_any_from}
 use Rattle.instance_set.specs.declared.set.InstanceSet.{InstanceSet}

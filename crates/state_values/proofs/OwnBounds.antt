@@ -1,6 +1,6 @@
 -- The bounds of a number at a type, from those of its parts.
-use Rattle.std.proofs.Common.{◌≡◌, ℕ, ℤ, pos, neg_ℤ, ◌≤◌, ◌≤ℤ◌, ◌-ℤ◌, ◌*ℤ◌, ◌∙◌, ap, sym, subst, Bool, true, false, cond, ◌&&◌, ◌==◌, List, [], ◌∷◌, map, Option, Some, None, refl, leb-true, arith}
-use Rattle.std.specs.Prelude.{IsTrue, int_le, nat_le, if◌then◌else◌}
+use Rattle.std.proofs.Common.{◌≡◌, ℕ, ℤ, pos, neg_ℤ, ◌≤◌, ◌-ℤ◌, ◌*ℤ◌, ◌∙◌, ap, sym, subst, Bool, true, false, cond, ◌&&◌, ◌==◌, List, [], ◌∷◌, map, Option, Some, None, refl, leb-true, arith}
+use Rattle.std.specs.Prelude.{IsTrue, int_le, nat_le}
 use Rattle.std.specs.Int.{int_min, int_max}
 use Rattle.std.specs.Option.{option_map_or, option_map, option_and_then}
 use Rattle.std.specs.List.{find, list_all}
@@ -28,9 +28,9 @@ use Rattle.prod_model.proofs.EntryLimits.{port_pairs}
 use Rattle.prod_model.proofs.ExprBoundsLaws.{bounds_at_Num, bounds_at_Attr, bounds_at_Count, bounds_at_CountOf, bounds_at_Sum, bounds_at_Total, bounds_at_Number, bounds_at_Add, bounds_at_Sub, bounds_at_Times, bounds_at_Cmp, bounds_at_Is, bounds_at_Kind, bounds_at_And, bounds_at_Or, bounds_at_Not, bounds_at_If, bounds_at_All, bounds_at_Any}
 use Rattle.config_value.proofs.ToldLaws.{if_some}
 use Rattle.state_values.specs.declared.interval.Ends.{Ends}
-use Rattle.state_values.specs.Sights.{least_at, greatest_at, or_zero}
+use Rattle.state_values.specs.Sights.{or_zero}
 use Rattle.state_values.specs.steps.Ends.{AreLimited}
-use Rattle.state_values.specs.steps.Forms.{pair, multiples, values_at, own_sum, form_own}
+use Rattle.state_values.specs.steps.Forms.{pair, multiples, values_at, form_own}
 
 -- ---- ports with their inverses
 

@@ -1,8 +1,8 @@
 -- Where an expression has bounds, its parts have them too, and the instances have what it asks for.
-use Rattle.std.proofs.Common.{◌≡◌, ℕ, zero, suc, ◌<◌, ◌∙◌, ap, sym, subst, Bool, true, false, not, cond, ◌&&◌, ◌==◌, List, [], ◌∷◌, map, Option, Some, None, refl, eqb-true, eq-eqb, length, leb-true}
+use Rattle.std.proofs.Common.{◌≡◌, ℕ, zero, suc, ◌<◌, ◌∙◌, ap, sym, subst, Bool, true, false, ◌==◌, List, [], ◌∷◌, map, Option, Some, None, refl, length, leb-true}
 use Rattle.std.specs.Prelude.{ℤ, pos, IsTrue, IsSome, nat_le, slice_get, if◌then◌else◌}
 use Rattle.std.specs.Option.{option_map_or, option_map, option_and_then, is_some}
-use Rattle.std.specs.List.{list_all, list_any, find}
+use Rattle.std.specs.List.{list_all, list_any}
 use Rattle.std.proofs.lemmas.Bool.{and_parts, false≢true}
 use Rattle.std.proofs.lemmas.Option.{none-some, same_Some}
 use Rattle.base_laws.specs.Places.{IsAt}
@@ -29,7 +29,7 @@ use Rattle.state_space.specs.Made.{domain_of, port_of_made}
 use Rattle.state_space.specs.State.{State, IsState, number_made, kinds_at, domain_at, port_at}
 use Rattle.state_space.proofs.DescribedParts.{one_of_all}
 use Rattle.state_values.specs.Sights.{is_surely_under, is_maybe_under}
-use Rattle.state_values.specs.steps.Parts.{Stands, HasAttribute, HasPort, HasParts, IsNumber, IsTruth}
+use Rattle.state_values.specs.steps.Parts.{Stands, HasAttribute, HasPort, HasParts, IsTruth}
 use Rattle.state_values.proofs.KindsTold.{there_is}
 use Rattle.state_values.proofs.OwnBounds.{port_declared}
 

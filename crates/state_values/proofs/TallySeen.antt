@@ -1,11 +1,10 @@
 -- What instances are seen to add together is what their shares add.
-use Rattle.std.proofs.Common.{◌≡◌, ℕ, ℤ, pos, ◌+ℤ◌, ◌*ℤ◌, ◌-◌, ◌∙◌, ap, ap₂, sym, Bool, true, false, List, [], ◌∷◌, map, Some, refl}
+use Rattle.std.proofs.Common.{◌≡◌, ℕ, ℤ, pos, ◌+ℤ◌, ◌*ℤ◌, ◌-◌, ◌∙◌, ap, ap₂, Bool, true, false, List, map, Some, refl}
 use Rattle.std.proofs.Math.Path.{fun_ext}
 use Rattle.std.specs.Prelude.{if◌then◌else◌}
 use Rattle.std.specs.Int.{int_min, int_max}
 use Rattle.std.specs.Option.{option_map_or}
 use Rattle.std.proofs.lemmas.Simd.{map-map}
-use Rattle.instance_set.specs.InstanceSets.{is_member}
 use Rattle.port_wildcards.specs.declared.port_domain.PortDomain.{PortDomain}
 use Rattle.prod_model.specs.declared.model.Model.{Model}
 use Rattle.prod_model.specs.ExprBounds.{sum_of}

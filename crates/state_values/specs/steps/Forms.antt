@@ -7,7 +7,7 @@ use Rattle.prod_model.specs.declared.model.Model.{Model}
 use Rattle.prod_model.specs.declared.model.AttrAt.{AttrAt}
 use Rattle.prod_model.specs.declared.model.Domain.TheVariants as domain
 use Rattle.prod_model.specs.declared.expr.Expr.{Expr, map-Expr}
-use Rattle.prod_model.specs.declared.expr.Expr.TheOpen.{Expr-F, Num, Attr, Count, CountOf, Sum, Total, Number, Add, Sub, Times, Cmp, Is, Kind, And, Or, Not, If, All, Any}
+use Rattle.prod_model.specs.declared.expr.Expr.TheOpen.{Expr-F, Num, Attr, Count, CountOf, Sum, Total, Number, Add, Sub, Times}
 use Rattle.prod_model.specs.ExprBounds.{bounds_at, low_of, high_of, sum_of}
 use Rattle.prod_model.specs.Taxonomy.{port_of}
 use Rattle.state_space.specs.State.{State}

@@ -16,7 +16,7 @@ use Rattle.state_values.specs.declared.truth_sets.Truths.{Truths}
 use Rattle.state_values.specs.Kleene as shown
 use Rattle.state_values.specs.Kleene.{is_true, is_false}
 use Rattle.state_values.specs.Sights.{port_state}
-use Rattle.state_values.specs.Seen.{as_truth}
+use Rattle.state_values.specs.Seen.{as_kleene}
 use Rattle.state_values.specs.steps.Forms.{form_seen}
 use Rattle.state_values.specs.steps.Parts.{Stands}
 
@@ -55,9 +55,9 @@ related Greater a b = precedes b a
 
 -- a truth without truths in it; false for other forms
 abbrev pub simple_truth : Model → State → ℕ → ℕ → Expr-F Expr → shown.Kleene
-simple_truth m s t i (Cmp r e f) = as_truth (form_seen m s t i (Cmp r e f))
-simple_truth m s t i (Is a w) = as_truth (form_seen m s t i (Is a w))
-simple_truth m s t i (Kind u) = as_truth (form_seen m s t i (Kind u))
+simple_truth m s t i (Cmp r e f) = as_kleene (form_seen m s t i (Cmp r e f))
+simple_truth m s t i (Is a w) = as_kleene (form_seen m s t i (Is a w))
+simple_truth m s t i (Kind u) = as_kleene (form_seen m s t i (Kind u))
 simple_truth m s t i form = shown.False []
 
 -- ---- truths of sets of instances

@@ -1,4 +1,4 @@
-use Rattle.std.proofs.Common.{ℕ, ◌+◌, ◌&&◌, ◌∙◌, ap, sym, subst}
+use Rattle.std.proofs.Common.{ℕ, ◌+◌, ◌&&◌, ◌∙◌, sym, subst}
 use Rattle.std.proofs.lemmas.Bool.{and_parts, and_from, and_right}
 use Rattle.instance_set.specs.InstanceSets.{is_member}
 use Rattle.instance_set.proofs.Walks.{HasFoundBelow, found_with, found_without}
