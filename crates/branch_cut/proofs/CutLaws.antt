@@ -40,8 +40,8 @@ demanded_is_dead j s best task state whole demanded c is covers beats =
     let o = j.order in
     let shaped = satisfied_shaped m c is in
     let after = bounded_after (lowest_vector m o s) (rank m o c) (rank m o best) (key_start m s) (key c) (key best) demanded
-        (lowest_holds_covered m o s c task.valid task.order state whole shaped covers)
-        (key_start_holds m s c task.valid state covers) in
+    (lowest_holds_covered m o s c task.valid task.order state whole shaped covers)
+    (key_start_holds m s c task.valid state covers) in
     let before : IsTrue (is_lt (rank_order m o c best)) = (and_parts (not j.goal.any) (is_lt (rank_order m o c best)) beats).1 in
     absurd (false≢true (sym (ap is_lt after) ∙ before))
 

@@ -33,6 +33,7 @@ bounded_is_after p c b after bounds = by (placed_order p c) refl
   where
     before : placed_order b p ≡ Less
     before = placed_total.antisymm b p ∙ ap ordering_reverse after
+
     by : (o : Ordering) → placed_order p c ≡ o → placed_order c b ≡ Greater
     by Less is = placed_total.antisymm c b ∙ ap ordering_reverse (placed_total.trans b p c before is)
     by Equal is = sym (placed_total.congr p c b is) ∙ after
