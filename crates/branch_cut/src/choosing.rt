@@ -19,8 +19,8 @@ use prod_model::Problem;
 /// A choice that is left open in a state that isn't stuck; none in a whole state. Where an instance
 /// has to be made, it makes the next one, and else it takes the lowest-numbered instance that isn't
 /// fixed: first its type, the lesser number first; then its attributes, the least value first; then
-/// its ports, a link before no link. It takes no memory, and a few steps for each attribute and port
-/// of each instance.
+/// its ports, a link before no link. It takes no memory, and a few steps for each attribute and
+/// port of each instance.
 pub fn choose(problem: &Problem, p: &Partial) -> Option<Branch>
     requires state { IsState problem.now p.now }
     requires room { is_stuck_in problem.now p.now ≡ false }

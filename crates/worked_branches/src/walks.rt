@@ -226,8 +226,8 @@ const ONE_SMALL_CARD: [Step; 11] = [
     ),
 ];
 
-/// Where a card is owed, it is made before anything else of the rack is known; then the rack's price
-/// is the lowest choice again.
+/// Where a card is owed, it is made before anything else of the rack is known; then the rack's
+/// price is the lowest choice again.
 const OWED_CARD: [Step; 3] = [
     (
         Branch {
