@@ -27,3 +27,9 @@ fits_either m s b = fits m s b.first && fits m s b.second
 -- the state entails neither of the two
 abbrev pub entails_neither : Model → State → Branch → Bool
 entails_neither m s b = not (entails m s b.first) && not (entails m s b.second)
+
+-- The two are a choice, the state can be narrowed by each, and it entails neither.
+pub record IsBranch (m : Model) (s : State) (b : Branch) : Type 0 where
+  pub choice : IsChoice m s b
+  pub fits : IsTrue (fits_either m s b)
+  pub unknown : IsTrue (entails_neither m s b)

@@ -2,5 +2,6 @@
 #![tactic(auto)]
 
 mod branch;
+pub mod laws;
 
 pub use branch::Branch;
