@@ -18,10 +18,10 @@ use Rattle.seq_search.specs.steps.Nodes.{IsFound, IsSplit, branches_after, best_
 use Rattle.seq_search.proofs.Accounts.{ends, splits, lowers, beats_not_itself}
 
 -- of a choice one of the two literals holds
-either_holds : (Settled : Task → State → Type 0) (j : Task) (piece : Piece) (nogoods : List Nogood) (Below : List Instance → Type 0) (q : State) (b : Branch)
-    → IsSplit Settled j piece nogoods Below q b → (c : List Instance) → IsSought j piece c → Below c
+either_holds : (j : Task) (piece : Piece) (nogoods : List Nogood) (Below : List Instance → Type 0) (q : State) (b : Branch)
+    → IsSplit j piece nogoods Below q b → (c : List Instance) → IsSought j piece c → Below c
     → CoversOpen j.model (record { state = q; literal = Some b.second }) c ⊎ CoversOpen j.model (record { state = q; literal = Some b.first }) c
-either_holds Settled j piece nogoods Below q b split c sought below =
+either_holds j piece nogoods Below q b split c sought below =
     let at = split.keeps c sought below in
     by (has_literal j.model c b.first) refl at
   where
@@ -31,23 +31,23 @@ either_holds Settled j piece nogoods Below q b split c sought below =
     by false is at = inl (record { covered = at; holds = split.choice c at sought.wanted.candidate.satisfied ∙ ap not is })
 
 -- A node keeps all that is sought accounted for.
-pub node_accounts : (Settled : Task → State → Type 0) (j : Task) (piece : Piece) (nogoods : List Nogood) (best : Option (List Instance))
+pub node_accounts : (j : Task) (piece : Piece) (nogoods : List Nogood) (best : Option (List Instance))
     (rest : List Open) (taken : Open) (q : State) (found : Found)
-    → IsFound Settled j piece nogoods best (CoversOpen j.model taken) q found
+    → IsFound j piece nogoods best (CoversOpen j.model taken) q found
     → AccountsForAll j piece (rest ++ taken ∷ []) best
     → AccountsForAll j piece (rest ++ branches_after q found) (best_after best found)
-node_accounts Settled j piece nogoods best rest taken q Ended barren all =
+node_accounts j piece nogoods best rest taken q Ended barren all =
     subst (λ bs. AccountsForAll j piece bs best) (sym (append-nil rest)) (ends j piece rest taken best barren all)
-node_accounts Settled j piece nogoods best rest taken q (Learnt n) learnt all =
+node_accounts j piece nogoods best rest taken q (Learnt n) learnt all =
     subst (λ bs. AccountsForAll j piece bs best) (sym (append-nil rest)) (ends j piece rest taken best learnt.0 all)
-node_accounts Settled j piece nogoods best rest taken q (Better d) better all =
+node_accounts j piece nogoods best rest taken q (Better d) better all =
     subst (λ bs. AccountsForAll j piece bs (Some d)) (sym (append-nil rest))
     (ends j piece rest taken (Some d)
     (λ c sought covers. subst (λ x. IsFalse (beats j x d)) (sym (better.only c sought covers)) (beats_not_itself j d))
     (lowers j piece (rest ++ taken ∷ []) best d better.better all))
-node_accounts Settled j piece nogoods best rest taken q (Split b) split all =
+node_accounts j piece nogoods best rest taken q (Split b) split all =
     splits j piece rest taken (record { state = q; literal = Some b.second }) (record { state = q; literal = Some b.first }) best
-    (either_holds Settled j piece nogoods (CoversOpen j.model taken) q b split) all
+    (either_holds j piece nogoods (CoversOpen j.model taken) q b split) all
 
 -- ---- in memory
 

@@ -1,5 +1,5 @@
 -- A branch that is narrowed by its literal.
-use Rattle.std.proofs.Common.{◌≡◌, ◌≢◌, ℕ, ◌<◌, ◌≤◌, List, Bool, true, false, Some, ap, subst, sym, ◌∙◌, arith}
+use Rattle.std.proofs.Common.{◌≡◌, ◌≢◌, ℕ, ◌<◌, ◌≤◌, List, [], ◌∷◌, ◌++◌, length, take, length-append, Bool, true, false, Some, refl, ap, subst, sym, ◌∙◌, arith}
 use Rattle.std.specs.Prelude.{IsTrue, IsFalse}
 use Rattle.std.proofs.lemmas.Bool.{true≢false}
 use Rattle.config_value.specs.declared.configuration.Instance.{Instance}
@@ -14,18 +14,17 @@ use Rattle.state_space.proofs.ValidStates.{change_keeps}
 use Rattle.state_space.proofs.ChangeLaws.{empty_covers_none}
 use Rattle.state_space.proofs.FewLaws.{fitting_is_less}
 use Rattle.reason_trail.specs.declared.reason.Why.{Why}
-use Rattle.reason_trail.specs.Trails.{Trace, IsTrail, IsPushed}
-use Rattle.reason_trail.proofs.Trails.{now_is_state}
+use Rattle.reason_trail.specs.Trails.{Trace, Extends, IsTrail, IsPushed, length_of}
+use Rattle.reason_trail.proofs.Trails.{now_is_state, new_stage, state_at-pushed, state_at-past}
+use Rattle.seq_search.proofs.Along.{extends_itself}
 use Rattle.seq_search.specs.OpenBranches.{Open, CoversOpen}
 use Rattle.seq_search.specs.steps.Opens.{MayBeTaken}
-use Rattle.seq_search.specs.steps.Nodes.{IsEntered}
+use Rattle.seq_search.specs.steps.Nodes.{IsEntered, is_left}
 use Rattle.seq_search.proofs.Filtering.{is_formed}
 
--- whether a change leaves anything
-abbrev pub is_left : Change → Bool
-is_left Same = true
-is_left Smaller = true
-is_left Empty = false
+take-append-same : {A : Type 0} (xs ys : List A) → take (length xs) (xs ++ ys) ≡ xs
+take-append-same [] ys = refl
+take-append-same (x ∷ xs) ys = ap (λ r. x ∷ r) (take-append-same xs ys)
 
 module _ (t new : Trace) (l : Literal) (why : Why) (right : IsTrail t) (may : MayBeTaken t.job.model (record { state = t.state; literal = Some l })) where
   pub entered : (change : Change) → IsPushed l why change t new
@@ -42,3 +41,16 @@ module _ (t new : Trace) (l : Literal) (why : Why) (right : IsTrail t) (may : Ma
       absurd (true≢false (sym (subst (λ u. IsTrue (entails t.job.model u.state l)) same told) ∙ may.1))
   entered Empty on = λ c satisfied covers.
       true≢false (sym covers.holds ∙ empty_covers_none t.job.model l t.state new.state c (now_is_state t right) may.0 on.changed covers.covered)
+
+  -- the trail has the old one's entries, and perhaps one more
+  pub extends_pushed : (change : Change) → IsPushed l why change t new → Extends t new
+  extends_pushed Smaller on = subst (Extends t) (sym (on.smaller refl)) (record {
+    job = refl;
+    longer = omega (arith, length-append t.stages (new_stage t l why new.state ∷ []));
+    begins =
+        let stages = take-append-same t.stages (new_stage t l why new.state ∷ []) in
+        let state = state_at-pushed t l why new.state (length_of t) (omega arith) ∙ state_at-past t (length_of t) (omega arith) in
+        λ i. record t { stages = stages i; state = state i };
+  })
+  extends_pushed Same on = subst (Extends t) (sym (on.same (λ e. absurd cc))) (extends_itself t)
+  extends_pushed Empty on = subst (Extends t) (sym (on.same (λ e. absurd cc))) (extends_itself t)

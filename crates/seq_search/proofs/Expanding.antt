@@ -24,7 +24,7 @@ use Rattle.seq_search.specs.Weights.{AreLess}
 use Rattle.seq_search.specs.Searches.{Search}
 use Rattle.seq_search.specs.Advances.{IsPut, IsKeptOrFound, IsNode}
 use Rattle.seq_search.specs.steps.Opens.{open_at, opens, but_last, IsStacked, MayBeTaken, IsStanding, IsKept, search_of}
-use Rattle.seq_search.specs.steps.Nodes.{IsFound, IsNoLarger, IsLearnt, branches_after, kept_after, best_after}
+use Rattle.seq_search.specs.steps.Nodes.{IsFound, IfSplit, IsLearnt, branches_after, kept_after, best_after}
 use Rattle.seq_search.proofs.Along.{state_at-extended}
 use Rattle.seq_search.proofs.Commits.{node_accounts}
 
@@ -162,7 +162,7 @@ module _ (Settled : Task → State → Type 0) (j : Task) (piece : Piece) (nogoo
       ∙ ap (λ r. r ++ opens t2 (kept_after (length_of t2) found)) (same_opens rest rest_within)
       ∙ ap (λ r. opens t0 rest ++ r) (opens-put t2 found)
 
-  takable_after : (found : Found) → IsFound Settled j piece nogoods best Taken t2.state found
+  takable_after : (found : Found) → IsFound j piece nogoods best Taken t2.state found
       → AllByRecursion (MayBeTaken j.model) (branches_after t2.state found)
   takable_after Ended f = tt
   takable_after (Learnt n) f = tt
@@ -172,7 +172,7 @@ module _ (Settled : Task → State → Type 0) (j : Task) (piece : Piece) (nogoo
       let unknown = and_parts (not (entails j.model t2.state b.first)) (not (entails j.model t2.state b.second)) f.unknown in
       ((fitting.1, not_true _ unknown.1), ((fitting.0, not_true _ unknown.0), tt))
 
-  wanted_after : (found : Found) → IsFound Settled j piece nogoods best Taken t2.state found
+  wanted_after : (found : Found) → IsFound j piece nogoods best Taken t2.state found
       → IfSome (best_after best found) (IsWanted j)
   wanted_after Ended f = standing.wanted
   wanted_after (Learnt n) f = standing.wanted
@@ -180,7 +180,7 @@ module _ (Settled : Task → State → Type 0) (j : Task) (piece : Piece) (nogoo
   wanted_after (Split b) f = standing.wanted
 
   -- after a whole node all still holds
-  pub next_standing : (found : Found) → IsFound Settled j piece nogoods best Taken t2.state found
+  pub next_standing : (found : Found) → IsFound j piece nogoods best Taken t2.state found
       → IsStanding j t2 piece (rest ++ kept_after (length_of t2) found) (best_after best found)
   next_standing found f = record {
     stacked = stacked_put 0 k.len (length_of t2) rest (kept_after (length_of t2) found) apart.0 (stacked_after k.len (length_of t2) found long);
@@ -189,7 +189,7 @@ module _ (Settled : Task → State → Type 0) (j : Task) (piece : Piece) (nogoo
         (all_first (MayBeTaken j.model) (opens t0 rest) (open_at t0 k ∷ []) (subst (AllByRecursion (MayBeTaken j.model)) opens_before standing.takable))
         (takable_after found f));
     accounts = subst (λ bs. AccountsForAll j piece bs (best_after best found)) (sym (opens_after found))
-        (node_accounts Settled j piece nogoods best (opens t0 rest) (open_at t0 k) t2.state found f
+        (node_accounts j piece nogoods best (opens t0 rest) (open_at t0 k) t2.state found f
         (subst (λ bs. AccountsForAll j piece bs best) opens_before standing.accounts));
     wanted = wanted_after found f;
   }
@@ -198,7 +198,7 @@ module _ (Settled : Task → State → Type 0) (j : Task) (piece : Piece) (nogoo
   none_less size = record { few = omega arith; less = All-from_recursion (λ n. n < size) [] tt }
 
   -- the branches that are put are less
-  less_after : (found : Found) → IsNoLarger j.model (open_size j.model (open_at t0 k)) t2.state found → 0 < size_of j.model t2.state
+  less_after : (found : Found) → IfSplit (size_of j.model t2.state ≤ open_size j.model (open_at t0 k)) found → 0 < size_of j.model t2.state
       → AreLess (open_size j.model (open_at t0 k)) (map (open_size j.model) (branches_after t2.state found))
   less_after Ended lesser some = none_less _
   less_after (Learnt n) lesser some = none_less _
@@ -213,17 +213,17 @@ module _ (Settled : Task → State → Type 0) (j : Task) (piece : Piece) (nogoo
     abbrev pub stood : Search
     stood = record { job = j; piece = piece; branches = opens t0 (rest ++ k ∷ []); best = best; nogoods = nogoods; learnt = learnt }
 
-    put_after : (found : Found) → IsFound Settled j piece nogoods best Taken t2.state found
+    put_after : (found : Found) → IsFound j piece nogoods best Taken t2.state found → IfSplit (Settled j t2.state) found
         → AllByRecursion (IsPut Settled stood) (branches_after t2.state found)
-    put_after Ended f = tt
-    put_after (Learnt n) f = tt
-    put_after (Better d) f = tt
-    put_after (Split b) f = (
-      record { literal = b.second; to_narrow = refl; settled = f.settled; no_nogood = f.no_nogood },
-      (record { literal = b.first; to_narrow = refl; settled = f.settled; no_nogood = f.no_nogood }, tt),
+    put_after Ended f settled = tt
+    put_after (Learnt n) f settled = tt
+    put_after (Better d) f settled = tt
+    put_after (Split b) f settled = (
+      record { literal = b.second; to_narrow = refl; settled = settled; no_nogood = f.no_nogood },
+      (record { literal = b.first; to_narrow = refl; settled = settled; no_nogood = f.no_nogood }, tt),
     )
 
-    kept_or_found : (nogoods_then learnt_then : List Nogood) (found : Found) → IsFound Settled j piece nogoods best Taken t2.state found
+    kept_or_found : (nogoods_then learnt_then : List Nogood) (found : Found) → IsFound j piece nogoods best Taken t2.state found
         → IsKeptOrFound stood (record { job = j; piece = piece; branches = opens t2 (rest ++ kept_after (length_of t2) found); best = best_after best found; nogoods = nogoods_then; learnt = learnt_then })
     kept_or_found nogoods_then learnt_then Ended f = inl refl
     kept_or_found nogoods_then learnt_then (Learnt n) f = inl refl
@@ -231,11 +231,11 @@ module _ (Settled : Task → State → Type 0) (j : Task) (piece : Piece) (nogoo
     kept_or_found nogoods_then learnt_then (Split b) f = inl refl
 
     -- it is one node of the search
-    pub next_node : (nogoods_then learnt_then : List Nogood) (found : Found) → IsFound Settled j piece nogoods best Taken t2.state found
-        → IsNoLarger j.model (open_size j.model (open_at t0 k)) t2.state found → 0 < size_of j.model t2.state
+    pub next_node : (nogoods_then learnt_then : List Nogood) (found : Found) → IsFound j piece nogoods best Taken t2.state found
+        → IfSplit (size_of j.model t2.state ≤ open_size j.model (open_at t0 k)) found → IfSplit (Settled j t2.state) found → 0 < size_of j.model t2.state
         → IsLearnt j.model j.order nogoods nogoods_then learnt learnt_then
         → IsNode Settled stood (record { job = j; piece = piece; branches = opens t2 (rest ++ kept_after (length_of t2) found); best = best_after best found; nogoods = nogoods_then; learnt = learnt_then })
-    next_node nogoods_then learnt_then found f lesser some learns = record {
+    next_node nogoods_then learnt_then found f lesser settled some learns = record {
       before = opens t0 rest;
       taken = open_at t0 k;
       after = [];
@@ -243,7 +243,7 @@ module _ (Settled : Task → State → Type 0) (j : Task) (piece : Piece) (nogoo
       were = opens_before;
       are = opens_after found ∙ sym (append-nil (opens t0 rest ++ branches_after t2.state found));
       less = less_after found lesser some;
-      each = All-from_recursion (IsPut Settled stood) (branches_after t2.state found) (put_after found f);
+      each = All-from_recursion (IsPut Settled stood) (branches_after t2.state found) (put_after found f settled);
       same_job = refl;
       same_piece = refl;
       best = kept_or_found nogoods_then learnt_then found f;

@@ -5,3 +5,4 @@ pub mod Along
 pub mod Entering
 pub mod Commits
 pub mod Expanding
+pub mod Sought

@@ -2,7 +2,10 @@
 #![tactic(auto)]
 
 mod advance;
+mod branching;
 mod found;
+mod node;
 mod open_branch;
+mod seeking;
 
 pub use advance::Advance;

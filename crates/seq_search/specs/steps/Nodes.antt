@@ -8,6 +8,8 @@ use Rattle.config_value.specs.Satisfies.{satisfies}
 use Rattle.literal_book.specs.declared.nogood.Nogood.{Nogood}
 use Rattle.literal_book.specs.declared.nogood.Piece.{Piece}
 use Rattle.literal_book.specs.Nogoods.{IsSound}
+use Rattle.domain_store.specs.declared.change.Change.{Change}
+use Rattle.domain_store.specs.declared.change.Change.TheVariants.{Same, Smaller, Empty}
 use Rattle.state_space.specs.State.{State}
 use Rattle.state_space.specs.Covers.{Covers}
 use Rattle.state_space.specs.Size.{size_of}
@@ -31,6 +33,12 @@ IsEntered m b q true =
     × (size_of m q ≤ open_size m b)
 IsEntered m b q false = (c : List Instance) → IsTrue (satisfies m c) → ¬ CoversOpen m b c
 
+-- whether a change leaves anything
+abbrev pub is_left : Change → Bool
+is_left Same = true
+is_left Smaller = true
+is_left Empty = false
+
 -- ---- what is found
 
 -- Nothing that is sought below beats the best so far.
@@ -45,34 +53,39 @@ pub record IsBetter (j : Task) (piece : Piece) (best : Option (List Instance))
   pub better : IsTrue (beats_best j best d)
   pub only : (c : List Instance) → IsSought j piece c → Below c → c ≡ d
 
--- The state covers all that is sought below. Nothing more follows in it, no nogood applies there,
--- and the two literals part what it covers.
-pub record IsSplit (Settled : Task → State → Type 0) (j : Task) (piece : Piece)
-    (nogoods : List Nogood) (Below : List Instance → Type 0) (q : State) (b : Branch)
-    : Type 0 where
+-- The state covers all that is sought below, no nogood applies there, and the two literals part what
+-- it covers.
+pub record IsSplit (j : Task) (piece : Piece) (nogoods : List Nogood)
+    (Below : List Instance → Type 0) (q : State) (b : Branch) : Type 0 where
   pub keeps : (c : List Instance) → IsSought j piece c → Below c → Covers j.model q c
   pub choice : IsChoice j.model q b
   pub fitting : IsTrue (fits_either j.model q b)
   pub unknown : IsTrue (entails_neither j.model q b)
-  pub settled : Settled j q
   pub no_nogood : (place : ℕ) → ¬ AppliesAt j.model j.goal.keep q nogoods place
 
 -- what was found of what is below, in the state that was come to
-abbrev pub IsFound : (Task → State → Type 0) → Task → Piece → List Nogood
-    → Option (List Instance) → (List Instance → Type 0) → State → Found → Type 0
-IsFound Settled j piece nogoods best Below q Ended = IsBarren j piece best Below
-IsFound Settled j piece nogoods best Below q (Learnt n) =
+abbrev pub IsFound : Task → Piece → List Nogood → Option (List Instance)
+    → (List Instance → Type 0) → State → Found → Type 0
+IsFound j piece nogoods best Below q Ended = IsBarren j piece best Below
+IsFound j piece nogoods best Below q (Learnt n) =
     IsBarren j piece best Below × IsSound j.model j.order n
-IsFound Settled j piece nogoods best Below q (Better d) = IsBetter j piece best Below d
-IsFound Settled j piece nogoods best Below q (Split b) =
-    IsSplit Settled j piece nogoods Below q b
+IsFound j piece nogoods best Below q (Better d) = IsBetter j piece best Below d
+IsFound j piece nogoods best Below q (Split b) = IsSplit j piece nogoods Below q b
 
--- where it splits, the state is no larger than so much
-abbrev pub IsNoLarger : Model → ℕ → State → Found → Type 0
-IsNoLarger m n q Ended = Unit {0}
-IsNoLarger m n q (Learnt l) = Unit {0}
-IsNoLarger m n q (Better d) = Unit {0}
-IsNoLarger m n q (Split b) = size_of m q ≤ n
+-- where it splits, this holds
+abbrev pub IfSplit : Type 0 → Found → Type 0
+IfSplit P Ended = Unit {0}
+IfSplit P (Learnt l) = Unit {0}
+IfSplit P (Better d) = Unit {0}
+IfSplit P (Split b) = P
+
+-- what the test of one configuration comes to: it is sought and beats the best so far, or not
+abbrev pub IsTested : Task → Piece → Option (List Instance) → List Instance → Found → Type 0
+IsTested j piece best c Ended = IsSought j piece c → IsFalse (beats_best j best c)
+IsTested j piece best c (Learnt n) = ⊥
+IsTested j piece best c (Better d) =
+    (d ≡ c) × IsSought j piece d × IsTrue (beats_best j best d)
+IsTested j piece best c (Split b) = ⊥
 
 -- ---- what takes the place of the branch
 
