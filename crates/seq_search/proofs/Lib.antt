@@ -6,3 +6,4 @@ pub mod Entering
 pub mod Commits
 pub mod Expanding
 pub mod Sought
+pub mod Looking

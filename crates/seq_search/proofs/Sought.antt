@@ -1,6 +1,7 @@
 -- Tests of configurations: what is shaped, and requests and extras at the root product.
-use Rattle.std.proofs.Common.{◌≡◌, ◌⊎◌, ℕ, zero, suc, ◌<◌, ◌≤◌, Bool, true, false, not, ◌&&◌, ◌||◌, List, [], ◌∷◌, length, Option, Some, None, refl, inl, inr, ap, sym, subst, ◌∙◌, leb-true, arith}
+use Rattle.std.proofs.Common.{◌≡◌, ◌⊎◌, ℕ, zero, suc, ◌+◌, ◌<◌, ◌≤◌, Bool, true, false, not, ◌&&◌, ◌||◌, List, [], ◌∷◌, length, Option, Some, None, refl, inl, inr, ap, sym, subst, ◌∙◌, leb-true, arith}
 use Rattle.std.specs.Prelude.{IsTrue, IsFalse, IfSome, nat_le, slice_get, ◌↔◌}
+use Rattle.std.specs.List.{list_all}
 use Rattle.std.proofs.lemmas.Bool.{and_parts, and_from, cases_lt, false≢true}
 use Rattle.std.proofs.lemmas.Option.{slice_get_within, same_Some, none-some}
 use Rattle.base_laws.specs.Places.{IsAt}
@@ -65,42 +66,51 @@ faultless_at_root m c e shaped truth =
       shallow = leb-true (nesting e) most_nesting both.0;
     }
 
--- ---- kept requests
+-- what holds of each of some truths holds of the rest of them
+pub rest_passes : {A : Type 0} (p : A → Bool) (xs : List A) (x : A) (rest : List A) → xs ≡ x ∷ rest → IsTrue (list_all p xs) → IsTrue (list_all p rest)
+rest_passes p xs x rest is all = (and_parts (p x) (list_all p rest) (subst (λ ys. IsTrue (list_all p ys)) is all)).1
 
-module _ (test : Request → Bool) where
-  -- each kept one below a place passes
-  abbrev pub AreMetBelow : List Bool → List Request → ℕ → Type 0
-  AreMetBelow keep rs n = (i : ℕ) (r : Request) → i < n → IsAt keep i true → IsAt rs i r → IsTrue (test r)
+-- ---- pairs of two lists
 
-  -- where a kept one fails, not all pass
-  pub one_fails : (keep : List Bool) (rs : List Request) (k : ℕ) (r : Request) → IsAt keep k true → IsAt rs k r → test r ≡ false
-      → pointwise (λ kept r. not kept || test r) keep rs ≡ false
-  one_fails [] rs k r kept at fails = absurd (none-some true kept)
-  one_fails (b ∷ keep) [] k r kept at fails = refl
-  one_fails (b ∷ keep) (q ∷ rs) zero r kept at fails =
-      let is : b ≡ true = same_Some b true kept in
-      let same : q ≡ r = same_Some q r at in
-      ap (λ x. x && pointwise (λ kept r. not kept || test r) keep rs)
-      (ap (λ y. not y || test q) is ∙ ap test same ∙ fails)
-  one_fails (b ∷ keep) (q ∷ rs) (suc k) r kept at fails =
-      later (not b || test q) (one_fails keep rs k r kept at fails)
+module _ {A B : Type 0} (test : A → B → Bool) where
+  -- each pair below a place passes
+  abbrev pub PassBelow : List A → List B → ℕ → Type 0
+  PassBelow xs ys n = (i : ℕ) (x : A) (y : B) → i < n → IsAt xs i x → IsAt ys i y → IsTrue (test x y)
+
+  -- where a pair fails, not all pass
+  pub one_fails : (xs : List A) (ys : List B) (k : ℕ) (x : A) (y : B) → IsAt xs k x → IsAt ys k y → test x y ≡ false
+      → pointwise test xs ys ≡ false
+  one_fails [] ys k x y here at fails = absurd (none-some x here)
+  one_fails (a ∷ xs) [] k x y here at fails = refl
+  one_fails (a ∷ xs) (b ∷ ys) zero x y here at fails =
+      let is : a ≡ x = same_Some a x here in
+      let same : b ≡ y = same_Some b y at in
+      ap (λ r. r && pointwise test xs ys) (ap (λ z. test z b) is ∙ ap (test x) same ∙ fails)
+  one_fails (a ∷ xs) (b ∷ ys) (suc k) x y here at fails = later (test a b) (one_fails xs ys k x y here at fails)
     where
-      later : (a : Bool) → pointwise (λ kept r. not kept || test r) keep rs ≡ false → (a && pointwise (λ kept r. not kept || test r) keep rs) ≡ false
+      later : (r : Bool) → pointwise test xs ys ≡ false → (r && pointwise test xs ys) ≡ false
       later true h = h
       later false h = refl
 
   -- where each passes, all do
-  pub all_pass : (keep : List Bool) (rs : List Request) → length keep ≡ length rs → AreMetBelow keep rs (length keep)
-      → pointwise (λ kept r. not kept || test r) keep rs ≡ true
-  all_pass [] [] long met = refl
-  all_pass [] (r ∷ rs) long met = absurd (omega (arith, long))
-  all_pass (b ∷ keep) [] long met = absurd (omega (arith, long))
-  all_pass (b ∷ keep) (r ∷ rs) long met = and_from (not b || test r) _ (head b refl)
-      (all_pass keep rs (omega (arith, long)) (λ i q low kept at. met (suc i) q (omega (arith, low)) kept at))
-    where
-      head : (x : Bool) → b ≡ x → IsTrue (not b || test r)
-      head true is = subst (λ y. IsTrue (not y || test r)) (sym is) (met 0 r (omega arith) (ap Some is) refl)
-      head false is = ap (λ y. not y || test r) is
+  pub all_pass : (xs : List A) (ys : List B) → length xs ≡ length ys → PassBelow xs ys (length xs) → pointwise test xs ys ≡ true
+  all_pass [] [] long pass = refl
+  all_pass [] (y ∷ ys) long pass = absurd (omega (arith, long))
+  all_pass (x ∷ xs) [] long pass = absurd (omega (arith, long))
+  all_pass (x ∷ xs) (y ∷ ys) long pass = and_from (test x y) _ (pass 0 x y (omega arith) refl refl)
+      (all_pass xs ys (omega (arith, long)) (λ i u v low here at. pass (suc i) u v (omega (arith, low)) here at))
+
+  -- one pair more
+  pub one_more : (xs : List A) (ys : List B) (k : ℕ) (x : A) (y : B) → IsAt xs k x → IsAt ys k y → IsTrue (test x y)
+      → PassBelow xs ys k → PassBelow xs ys (k + 1)
+  one_more xs ys k x y here at passes pass i u v low hereu atv = elim (cases_lt i k) [
+    | inl below ↦ pass i u v below hereu atv
+    | inr past ↦
+        let is : k ≡ i = omega (arith, low, past) in
+        let x_is : x ≡ u = same_Some x u (sym here ∙ ap (slice_get xs) is ∙ hereu) in
+        let y_is : y ≡ v = same_Some y v (sym at ∙ ap (slice_get ys) is ∙ atv) in
+        subst (λ z. IsTrue (test z v)) x_is (subst (λ z. IsTrue (test x z)) y_is passes)
+  ]
 
 -- ---- what is sought
 

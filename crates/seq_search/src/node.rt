@@ -1,7 +1,9 @@
 //! One node of a search: what is below an open branch. All that may run out of memory stands here,
 //! and what the search keeps is changed afterwards; so want of memory leaves it as it was.
-ghost use Rattle.std.specs.Prelude.{◌≡◌, ◌≤◌, ◌<◌, ℕ, IsTrue, IsFalse, IfOk, IfSome, Some, List, length};
+ghost use Rattle.std.specs.Prelude.{◌≡◌, ◌≤◌, ◌<◌, ℕ, IsTrue, IsFalse, IfOk, IfSome, Option, Some, List, length};
 ghost use Rattle.config_value.specs.declared.configuration.Instance.{Instance};
+ghost use Rattle.literal_book.specs.declared.nogood.Nogood.{Nogood};
+ghost use Rattle.literal_book.specs.declared.nogood.Piece.{Piece};
 ghost use Rattle.state_space.specs.Covers.{Covers};
 ghost use Rattle.state_space.specs.Size.{size_of};
 ghost use Rattle.state_space.specs.Whole.{is_whole, whole_configuration};
@@ -11,7 +13,7 @@ ghost use Rattle.reason_trail.specs.Trails.{IsTrail, Extends, cut_to, length_of}
 ghost use Rattle.nogood_store.specs.Stores.{AppliesAt, IsSearched};
 ghost use Rattle.seq_search.specs.OpenBranches.{CoversOpen, open_size};
 ghost use Rattle.seq_search.specs.steps.Opens.{open_at, MayBeTaken};
-ghost use Rattle.seq_search.specs.steps.Nodes.{IsEntered, IsFound, IfSplit, IsTested, is_left as is_left_of};
+ghost use Rattle.seq_search.specs.steps.Nodes.{IsEntered, IsFound, IsEnd, IfSplit, IsTested, is_left as is_left_of};
 
 use crate::branching::{choose, is_stuck};
 use crate::found::Found;
@@ -110,8 +112,10 @@ fn is_left(change: Change) -> bool
 fn taught(alloc: Global, trail: &Trail, job: &Job, why: &Reason) -> Result<Found, AllocError>
     requires job { trail.now.job ≡ job.now }
     requires failure { IsFailure job.now trail.now.state why.now }
-    ensures found { (piece : _) (nogoods : _) (best : _) → IfOk result (IsFound job.now piece nogoods best
-        (Covers job.now.model trail.now.state) trail.now.state) }
+    ensures found { (piece : Piece) (nogoods : List Nogood) (best : Option (List Instance))
+        → IfOk result (IsFound job.now piece nogoods best (Covers job.now.model trail.now.state)
+        trail.now.state) }
+    ensures end { IfOk result IsEnd }
 {
     let _state = trail.state();
     match learn(alloc, job, trail, why)? {
@@ -135,6 +139,7 @@ fn look(
     requires wanted { IfSome best.now (IsWanted job.now) }
     ensures found { IfOk result (IsFound job.now piece.now store.old.nogoods best.now
         (Covers job.now.model trail.now.state) trail.now.state) }
+    ensures right { IsTrail trail.now }
     ensures searched { IsSearched store.old store.new }
 {
     let _task = trail.job();

@@ -1,10 +1,12 @@
 //! Whether a configuration is sought, and whether it beats the best so far. Nothing here takes memory.
-ghost use Rattle.std.specs.Prelude.{◌≡◌, ◌↔◌, ◌<◌, IsTrue, IfSome, length};
+ghost use Rattle.std.specs.Prelude.{◌≡◌, ◌↔◌, ◌<◌, ◌||◌, not, IsTrue, IfSome, length};
+ghost use Rattle.base_laws.specs.Places.{IsAt};
+ghost use Rattle.prod_model.specs.declared.model.Request.{Request};
 ghost use Rattle.std.specs.List.{list_all};
 ghost use Rattle.prod_model.specs.ExprBounds.{is_truth_at};
 ghost use Rattle.config_value.specs.Shaped.{is_shaped};
 ghost use Rattle.config_value.specs.Spelled.{is_spelled};
-ghost use Rattle.config_value.specs.Satisfies.{satisfies as satisfies_of, meets_kept as meets_kept_of};
+ghost use Rattle.config_value.specs.Satisfies.{satisfies as satisfies_of, meets as meets_of, meets_kept as meets_kept_of};
 ghost use Rattle.config_value.specs.Value.{is_true_at};
 ghost use Rattle.criteria_order.specs.Wanted.{meets_extra as meets_extra_of, ranks_after as ranks_after_of};
 ghost use Rattle.literal_book.specs.Nogoods.{in_piece};
@@ -19,11 +21,12 @@ use prod_model::{Expr, Problem};
 use reason_trail::Job;
 
 /// Whether a configuration is wanted and in the piece.
+#[tactic(auto, using(crate::proofs::Sought::satisfied_is_shaped, crate::proofs::Sought::sought_exactly))]
 pub(crate) fn is_sought(job: &Job, piece: &Piece, c: &Configuration) -> bool
     requires { IsTrue (is_spelled job.now.model c.now) }
     ensures { IsTrue result ↔ IsSought job.now piece.now c.now }
 {
-    if !satisfies(job.problem(), c) {
+    if !satisfies(job, c) {
         return false;
     }
     meets_kept(job, c)
@@ -31,11 +34,11 @@ pub(crate) fn is_sought(job: &Job, piece: &Piece, c: &Configuration) -> bool
 }
 
 /// Whether it satisfies the model.
-fn satisfies(problem: &Problem, c: &Configuration) -> bool
-    requires { IsTrue (is_spelled problem.now c.now) }
-    ensures { result ≡ satisfies_of problem.now c.now }
+fn satisfies(job: &Job, c: &Configuration) -> bool
+    requires { IsTrue (is_spelled job.now.model c.now) }
+    ensures { result ≡ satisfies_of job.now.model c.now }
 {
-    match check(problem, c) {
+    match check(job.problem(), c) {
         Verdict::Satisfied => true,
         Verdict::Broken { .. } => false,
     }
@@ -47,13 +50,23 @@ fn meets_kept(job: &Job, c: &Configuration) -> bool
     ensures { result ≡ meets_kept_of job.now.model job.now.order job.now.goal.keep c.now }
 {
     let _problem = job.problem();
-    let keep = job.goal().keep.as_slice();
-    for k in 0..keep.len() {
-        if keep[k] && !meets(job.problem(), job.order(), k as u32, c) {
+    for (k, kept) in job.goal().keep.as_slice().iter().enumerate() {
+        if !meets_if(*kept, job, k as u32, c) {
             return false;
         }
     }
     true
+}
+
+/// Whether it meets a request, if that is kept.
+fn meets_if(kept: bool, job: &Job, k: u32, c: &Configuration) -> bool
+    requires shaped { IsTrue (is_shaped job.now.model c.now) }
+    requires request { k < length job.now.order.requests }
+    ensures { (r : Request) → IsAt job.now.order.requests k r
+        → result ≡ (not kept || meets_of job.now.model c.now r) }
+{
+    let problem = job.problem();
+    !kept || meets(problem, job.order(), k, c)
 }
 
 /// Whether each extra is true at its root product.

@@ -72,6 +72,13 @@ IsFound j piece nogoods best Below q (Learnt n) =
 IsFound j piece nogoods best Below q (Better d) = IsBetter j piece best Below d
 IsFound j piece nogoods best Below q (Split b) = IsSplit j piece nogoods Below q b
 
+-- the branch ends without a configuration
+abbrev pub IsEnd : Found → Type 0
+IsEnd Ended = Unit {0}
+IsEnd (Learnt n) = Unit {0}
+IsEnd (Better d) = ⊥
+IsEnd (Split b) = ⊥
+
 -- where it splits, this holds
 abbrev pub IfSplit : Type 0 → Found → Type 0
 IfSplit P Ended = Unit {0}
