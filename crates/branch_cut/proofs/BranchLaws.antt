@@ -39,7 +39,7 @@ by_opposites m s b state opposites first second open_first open_second = record 
 -- ---- types
 
 -- an instance that may be of a type is made
-made_with : (s : State) (i t : ℕ) → IsTrue (has_number (kinds_at s i) t) → (x : MadeInstance) × IsAt s.made i x × (kinds_at s i ≡ x.kinds)
+pub made_with : (s : State) (i t : ℕ) → IsTrue (has_number (kinds_at s i) t) → (x : MadeInstance) × IsAt s.made i x × (kinds_at s i ≡ x.kinds)
 made_with s i t has = by _ refl has
   where
     by : (o : Option MadeInstance) → slice_get s.made i ≡ o → IsTrue (has_number (option_map_or (λ x. x.kinds) o []) t) → (x : MadeInstance) × IsAt s.made i x × (kinds_at s i ≡ x.kinds)
@@ -57,7 +57,7 @@ kind_fails s i t test has fails =
     false_from_ne_true _ (λ all. false≢true (sym fails ∙ all_has test found.0.kinds t (sym (all_kinds_at s i found.0 test found.1) ∙ all) (ap (λ ks. has_number ks t) (sym found.2) ∙ has)))
 
 -- a possible type is a leaf
-leaf_at : (m : Model) (s : State) (i t : ℕ) → IsState m s → IsTrue (has_number (kinds_at s i) t) → IsTrue (is_leaf m t)
+pub leaf_at : (m : Model) (s : State) (i t : ℕ) → IsState m s → IsTrue (has_number (kinds_at s i) t) → IsTrue (is_leaf m t)
 leaf_at m s i t state has =
     let found = made_with s i t has in
     all_has (is_leaf m) found.0.kinds t (state.each i found.0 found.1).leaves (ap (λ ks. has_number ks t) (sym found.2) ∙ has)

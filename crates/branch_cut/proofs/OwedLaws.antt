@@ -1,11 +1,11 @@
 -- An instance that has to be made for the first open port.
 use Rattle.std.proofs.Common.{◌≡◌, ℕ, ◌+◌, ◌<◌, ◌≤◌, Bool, true, false, not, ◌&&◌, List, [], ◌∷◌, length, refl, ap, sym, ◌∙◌, subst, inl, inr, Some, None, Option, slice_get, arith, lt-ltb, ltb-true, leb-true}
-use Rattle.std.specs.Prelude.{IsTrue, ◌==◌, nat_lt, nat_le}
-use Rattle.std.specs.Option.{option_map_or, option_and_then}
+use Rattle.std.specs.Prelude.{IsTrue, IsSome, ◌==◌, nat_lt, nat_le}
+use Rattle.std.specs.Option.{option_map_or, option_map, option_and_then, is_some, ForSome}
 use Rattle.std.specs.List.{list_all, list_any, count_by}
 use Rattle.std.proofs.lemmas.Bool.{and_parts, and_from, or_cases, eqb-true, eq-eqb, false≢true, false_from_ne_true, not_from_false, true_from_ne_false}
 use Rattle.std.proofs.lemmas.Bool.Decides.{nat_tests}
-use Rattle.std.proofs.lemmas.Option.{slice_get_within}
+use Rattle.std.proofs.lemmas.Option.{slice_get_within, none-some, same_Some}
 use Rattle.base_laws.specs.Places.{IsAt}
 use Rattle.base_laws.proofs.Tests.{list_any_at, list_any_from, option_map_or_at, option_map_or_from}
 use Rattle.prod_model.specs.declared.model.Model.{Model}
@@ -22,7 +22,7 @@ use Rattle.config_value.specs.Satisfies.{satisfies, follows_rules}
 use Rattle.config_value.proofs.ShapedSentences.{shaped_sentences}
 use Rattle.config_value.proofs.Places.{is_between_at}
 use Rattle.state_space.specs.Made.{MadeInstance, port_of_made}
-use Rattle.state_space.specs.Ports.{PortState}
+use Rattle.state_space.specs.Ports.{PortState, is_closed}
 use Rattle.state_space.specs.Sets.{has_number}
 use Rattle.state_space.specs.State.{State, IsState, number_made, port_at}
 use Rattle.state_space.specs.Covers.{Covers}
@@ -175,3 +175,34 @@ stuck_covers_none m s c state valid stuck h = false_from_ne_true _ (λ satisfied
     let all = eqb-true (number_made s) m.instances both.1 in
     let few = shape.size.1 in
     absurd (omega (arith, more, all, few)))
+
+-- ---- the first open port, as its place is told
+
+-- the first open port is told by its place
+pub told_port : (m : Model) (s : State) (o : Option (ℕ × ℕ)) (e : ℕ × ℕ) → o ≡ option_map (λ at. (at.instance, at.port)) (first_open m s) → o ≡ Some e
+    → first_open m s ≡ Some (record { instance = e.0; port = e.1 })
+told_port m s o e told is = by (first_open m s) refl
+  where
+    by : (f : Option PortOf) → first_open m s ≡ f → first_open m s ≡ Some (record { instance = e.0; port = e.1 })
+    by None none = absurd (none-some e (sym (ap (option_map (λ (at : PortOf). (at.instance, at.port))) none) ∙ (sym told ∙ is)))
+    by (Some at) some =
+        let same : (at.instance, at.port) ≡ e = same_Some (at.instance, at.port) e (sym (ap (option_map (λ (at : PortOf). (at.instance, at.port))) some) ∙ (sym told ∙ is)) in
+        some ∙ ap (λ (e : ℕ × ℕ). let at : PortOf = record { instance = e.0; port = e.1 } in Some at) same
+
+-- it has links that it may have
+pub open_port_there : (m : Model) (s : State) (at : PortOf) → first_open m s ≡ Some at → IsSome (port_at s at.instance at.port)
+open_port_there m s at is =
+    let f = first_open_is m s at is in
+    let place : f.skipped ≡ at.instance = let place = f.instance in omega (arith, place) in
+    let made : IsAt s.made at.instance f.made = subst (λ i. IsAt s.made i f.made) place f.there in
+    let q = option_map_or_at (λ q. not (is_closed q)) (port_of_made f.made f.port.id) f.opened in
+    ap is_some (ap (option_and_then (λ x. port_of_made x at.port)) made ∙ ap (port_of_made f.made) (sym f.port_id) ∙ q.1)
+
+-- the next instance is made, or the port that is told links no later one
+pub owed_told : (m : Model) (s : State) (o : Option (ℕ × ℕ)) (i p n : ℕ) → IsValid m → IsState m s → is_some o ≡ owes_instance m s → is_stuck_in m s ≡ false
+    → ForSome o (λ e. first_open m s ≡ Some (record { instance = e.0; port = e.1 })) → o ≡ Some (i, p) → n ≡ number_made s
+    → IsBranch m s (record { first = literal.Made n; second = literal.FreshAtMost i p n 0 })
+owed_told m s o i p n valid state owed room open_port is made =
+    let at : PortOf = record { instance = i; port = p } in
+    subst (λ n. IsBranch m s (record { first = literal.Made n; second = literal.FreshAtMost i p n 0 })) (sym made)
+    (owed_branch m s at valid state (sym owed ∙ ap is_some is) room (open_port (i, p) is))

@@ -44,8 +44,10 @@ LaterBranch =
     (m : Model) (s : State) (i p n : ℕ) (q : PortState) → IsState m s
     → IsTrue (all_have_port m s i p) → port_at s i p ≡ Some q
     → q.fresh_low ≤ n → n < q.fresh_high
-    → IsBranch m s (record { first = FreshAtLeast i p (number_made s) (n + 1);
-    second = FreshAtMost i p (number_made s) n })
+    → IsBranch m s (record {
+      first = FreshAtLeast i p (number_made s) (n + 1);
+      second = FreshAtMost i p (number_made s) n;
+    })
 
 -- Where an instance has to be made and one is left, the next one is made, or the first open port
 -- links no later one. The first of the two holds in every covered configuration that satisfies the
@@ -54,8 +56,10 @@ abbrev pub OwedBranch : Type 0
 OwedBranch =
     (m : Model) (s : State) (at : PortOf) → IsValid m → IsState m s
     → IsTrue (owes_instance m s) → is_stuck_in m s ≡ false → first_open m s ≡ Some at
-    → IsBranch m s (record { first = Made (number_made s);
-    second = FreshAtMost at.instance at.port (number_made s) 0 })
+    → IsBranch m s (record {
+      first = Made (number_made s);
+      second = FreshAtMost at.instance at.port (number_made s) 0;
+    })
 
 -- No covered configuration of a stuck state satisfies the model.
 abbrev pub StuckCoversNone : Type 0
