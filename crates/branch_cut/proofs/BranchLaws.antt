@@ -1,5 +1,5 @@
 -- Opposite literals of what is left open are a choice between two.
-use Rattle.std.proofs.Common.{◌≡◌, ◌≢◌, ℕ, suc, ◌+◌, ◌<◌, ◌≤◌, ℤ, pos, ◌+ℤ◌, Bool, true, false, not, ◌&&◌, List, [], ◌∷◌, length, refl, ap, sym, ◌∙◌, inl, inr, Some, None, Option, slice_get, arith, lt-ltb, ltb-true}
+use Rattle.std.proofs.Common.{◌≡◌, ℕ, suc, ◌+◌, ◌<◌, ◌≤◌, ℤ, pos, ◌+ℤ◌, Bool, false, not, ◌&&◌, [], ◌∷◌, length, refl, ap, sym, ◌∙◌, inl, inr, Some, None, Option, slice_get, arith, lt-ltb, ltb-true}
 use Rattle.std.specs.Prelude.{IsTrue, ◌==◌, nat_lt, nat_le, int_le, int_lt, if◌then◌else◌}
 use Rattle.std.specs.Option.{option_map_or, option_and_then}
 use Rattle.std.specs.List.{list_all, list_any, count_by}
@@ -17,9 +17,8 @@ use Rattle.state_space.specs.Values.{Values, least, greatest}
 use Rattle.state_space.specs.Ports.{PortState, is_closed}
 use Rattle.state_space.specs.Sets.{has_number}
 use Rattle.state_space.specs.State.{State, IsState, number_made, kinds_at, domain_at, port_at}
-use Rattle.state_space.specs.Entails.{entails, fits, opposite, all_kinds, has_domain_that, has_port_that, all_have_attribute, all_have_port}
+use Rattle.state_space.specs.Entails.{entails, fits, opposite, all_kinds, has_domain_that, has_port_that, all_have_port}
 use Rattle.state_space.proofs.ChangeLaws.{opposite_holds}
-use Rattle.state_space.proofs.NarrowingLaws.{true_along}
 use Rattle.state_space.proofs.PortLaws.{all_has, count_by-none}
 use Rattle.state_space.proofs.EntailsLaws.{port_parts}
 use Rattle.state_space.proofs.DescriptionLaws.{under_leaf, port_is}

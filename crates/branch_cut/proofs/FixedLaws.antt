@@ -1,10 +1,10 @@
 -- Instances of which no branch is left, and the whole state that they make.
-use Rattle.std.proofs.Common.{◌≡◌, ◌⊎◌, ℕ, zero, suc, ◌+◌, ◌<◌, ◌≤◌, ℤ, pos, ◌≤ℤ◌, Bool, true, false, not, cond, ◌&&◌, ◌||◌, List, [], ◌∷◌, length, map, get_or, refl, ap, sym, ◌∙◌, subst, inl, inr, Some, None, Option, slice_get, arith, ltb-true, lt-ltb, leb-true, zero-add}
-use Rattle.std.specs.Prelude.{IsTrue, IsSome, ◌==◌, nat_lt, nat_le, int_le, slice_index_or}
+use Rattle.std.proofs.Common.{◌≡◌, ℕ, zero, suc, ◌+◌, ◌<◌, ℤ, pos, Bool, true, false, not, ◌||◌, List, [], ◌∷◌, length, map, get_or, refl, ap, sym, ◌∙◌, subst, inl, inr, Some, None, Option, slice_get, arith, ltb-true, zero-add}
+use Rattle.std.specs.Prelude.{IsTrue, IsSome, ◌==◌, nat_le, int_le, slice_index_or}
 use Rattle.std.specs.Option.{option_map_or, option_and_then, is_some, ForSome}
-use Rattle.std.specs.List.{list_all, list_any, find, zip, range_with_len}
+use Rattle.std.specs.List.{list_all, find, zip, range_with_len}
 use Rattle.std.specs.Ordering.{int_eq}
-use Rattle.std.proofs.lemmas.Bool.{and_parts, and_from, or_left, or_right, eqb-true, eq-eqb, false≢true, false_from_ne_true, not-true, not_from_false}
+use Rattle.std.proofs.lemmas.Bool.{and_parts, and_from, or_left, or_right, eqb-true, eq-eqb, false≢true, false_from_ne_true, not_from_false}
 use Rattle.std.proofs.lemmas.Bool.Decides.{nat_tests}
 use Rattle.std.proofs.lemmas.Int.{ints}
 use Rattle.std.proofs.lemmas.Option.{none-some, same_Some, slice_get-get_or, slice_get_within, get_or_from_slice_get}
@@ -12,7 +12,7 @@ use Rattle.std.proofs.lemmas.List.FromFn.{length-range_with_len}
 use Rattle.base_laws.specs.Places.{IsAt}
 use Rattle.base_laws.proofs.Lists.{zip_first, zip_second}
 use Rattle.base_laws.proofs.Places.{map_at}
-use Rattle.base_laws.proofs.Ranges.{slice_get_range_with_len, range_with_len_from}
+use Rattle.base_laws.proofs.Ranges.{slice_get_range_with_len}
 use Rattle.base_laws.proofs.Searches.{any_found}
 use Rattle.base_laws.proofs.Tests.{list_all_at, list_all_from, list_any_at, list_any_from, option_map_or_at, option_map_or_from}
 use Rattle.prod_model.specs.declared.model.Model.{Model}
@@ -22,7 +22,7 @@ use Rattle.prod_model.specs.Forest.{is_leaf}
 use Rattle.prod_model.specs.Taxonomy.{attributes_at, ports_at}
 use Rattle.config_value.specs.Literals.{has_attribute, has_port}
 use Rattle.state_space.specs.Made.{MadeInstance, domain_of, port_of_made}
-use Rattle.state_space.specs.Values.{Values, has_value, least, greatest, are_values}
+use Rattle.state_space.specs.Values.{Values, least, greatest, are_values}
 use Rattle.state_space.specs.Ports.{PortState, is_closed}
 use Rattle.state_space.specs.Sets.{has_number}
 use Rattle.state_space.specs.State.{State, IsState, number_made, kinds_at, domain_at, port_at, low_at, high_at, leaves_that, first_attributes, first_ports}
@@ -31,7 +31,6 @@ use Rattle.state_space.specs.Whole.{has_one_value, is_settled_port, all_of_type,
 use Rattle.state_space.proofs.PortLaws.{has_number-filter}
 use Rattle.state_space.proofs.ValuesLaws.{le-greatest, least-in}
 use Rattle.state_space.proofs.GenerationKept.{first_open_is}
-use Rattle.state_space.proofs.OpenPort.{IsFirstOpen}
 use Rattle.partial_state.proofs.WholeParts.{one_value}
 use Rattle.state_space.specs.Entails.{all_kinds, all_have_attribute, all_have_port}
 use Rattle.state_space.proofs.DescribedParts.{domain_there}

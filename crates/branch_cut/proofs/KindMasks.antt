@@ -1,5 +1,5 @@
 -- The possible types of an instance, as a mask.
-use Rattle.std.proofs.Common.{◌≡◌, ◌≢◌, ℕ, ◌+◌, ◌*◌, ◌%◌, ◌^◌, ◌<◌, Bool, true, false, not, cond, ◌||◌, List, [], ◌∷◌, length, refl, ap, sym, ◌∙◌, inl, inr, Some, None, Option, arith, ltb-true}
+use Rattle.std.proofs.Common.{◌≡◌, ◌≢◌, ℕ, ◌*◌, ◌%◌, ◌^◌, ◌<◌, Bool, true, false, not, ◌||◌, List, [], ◌∷◌, refl, ap, sym, ◌∙◌, inl, inr, Some, None, arith, ltb-true}
 use Rattle.std.specs.Prelude.{◌⊎◌, ◌↔◌, IsTrue, ◌==◌, nat_lt, if◌then◌else◌}
 use Rattle.std.specs.Option.{option_map_or}
 use Rattle.std.specs.Int.{bit_at, trailing_zeros, w128}
@@ -15,7 +15,6 @@ use Rattle.state_space.specs.Sets.{has_number}
 use Rattle.state_space.specs.State.{State, IsState, number_made, kinds_at}
 use Rattle.state_space.proofs.DescriptionLaws.{made_at}
 use Rattle.state_space.proofs.WholeLaws.{same_members}
-use Rattle.branch_cut.specs.declared.branch.Branch.{Branch}
 use Rattle.branch_cut.specs.Branching.{IsBranch}
 use Rattle.branch_cut.proofs.BranchLaws.{kinds_branch}
 

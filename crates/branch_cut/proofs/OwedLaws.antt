@@ -1,9 +1,9 @@
 -- An instance that has to be made for the first open port.
-use Rattle.std.proofs.Common.{◌≡◌, ℕ, ◌+◌, ◌<◌, ◌≤◌, Bool, true, false, not, ◌&&◌, List, [], ◌∷◌, length, refl, ap, sym, ◌∙◌, subst, inl, inr, Some, None, Option, slice_get, arith, lt-ltb, ltb-true, leb-true}
+use Rattle.std.proofs.Common.{◌≡◌, ℕ, ◌+◌, ◌<◌, ◌≤◌, Bool, false, not, ◌&&◌, List, [], length, refl, ap, sym, ◌∙◌, subst, inl, inr, Some, None, Option, arith, lt-ltb, leb-true}
 use Rattle.std.specs.Prelude.{IsTrue, IsSome, ◌==◌, nat_lt, nat_le}
 use Rattle.std.specs.Option.{option_map_or, option_map, option_and_then, is_some, ForSome}
 use Rattle.std.specs.List.{list_all, list_any, count_by}
-use Rattle.std.proofs.lemmas.Bool.{and_parts, and_from, or_cases, eqb-true, eq-eqb, false≢true, false_from_ne_true, not_from_false, true_from_ne_false}
+use Rattle.std.proofs.lemmas.Bool.{and_parts, and_from, or_cases, eqb-true, eq-eqb, false≢true, false_from_ne_true, not_from_false}
 use Rattle.std.proofs.lemmas.Bool.Decides.{nat_tests}
 use Rattle.std.proofs.lemmas.Option.{slice_get_within, none-some, same_Some}
 use Rattle.base_laws.specs.Places.{IsAt}
@@ -13,7 +13,7 @@ use Rattle.prod_model.specs.Valid.{IsValid}
 use Rattle.prod_model.specs.Taxonomy.{ports_at}
 use Rattle.config_value.specs.declared.configuration.Instance.{Instance}
 use Rattle.config_value.specs.declared.literal.Literal.TheVariants as literal
-use Rattle.config_value.specs.Literals.{has_port, has_literal, has_links_that, count_from}
+use Rattle.config_value.specs.Literals.{has_port, has_literal, count_from}
 use Rattle.config_value.specs.Value.{links_of, links_at_instance}
 use Rattle.config_value.specs.Shaped.{is_shaped}
 use Rattle.config_value.specs.ShapedSentences.{HasShape}
@@ -21,13 +21,13 @@ use Rattle.config_value.specs.Numbered.{is_numbered}
 use Rattle.config_value.specs.Satisfies.{satisfies, follows_rules}
 use Rattle.config_value.proofs.ShapedSentences.{shaped_sentences}
 use Rattle.config_value.proofs.Places.{is_between_at}
-use Rattle.state_space.specs.Made.{MadeInstance, port_of_made}
+use Rattle.state_space.specs.Made.{port_of_made}
 use Rattle.state_space.specs.Ports.{PortState, is_closed}
 use Rattle.state_space.specs.Sets.{has_number}
 use Rattle.state_space.specs.State.{State, IsState, number_made, port_at}
 use Rattle.state_space.specs.Covers.{Covers}
 use Rattle.state_space.specs.Entails.{entails, fits, all_have_port}
-use Rattle.state_space.specs.Generation.{PortOf, first_open, open_port_passes, can_generate, owes_instance, links_later}
+use Rattle.state_space.specs.Generation.{PortOf, first_open, open_port_passes, can_generate, owes_instance}
 use Rattle.state_space.proofs.EntailsLaws.{covered_at, port_parts}
 use Rattle.state_space.proofs.DescriptionLaws.{port_is}
 use Rattle.state_space.proofs.GenerationKept.{first_open_is, port_links}
@@ -36,7 +36,6 @@ use Rattle.state_space.proofs.OpenPort.{IsFirstOpen}
 use Rattle.state_space.proofs.PortLaws.{count_by-member}
 use Rattle.state_space.proofs.SearchLaws.{owed_is_linked}
 use Rattle.state_space.proofs.ValidLaws.{valid_has_ids}
-use Rattle.branch_cut.specs.declared.branch.Branch.{Branch}
 use Rattle.branch_cut.specs.Branching.{is_stuck_in, IsBranch}
 use Rattle.branch_cut.specs.Laws.{OwedBranch, StuckCoversNone}
 use Rattle.branch_cut.proofs.BranchLaws.{all_kinds_at, port_fails}

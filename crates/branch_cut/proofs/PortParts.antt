@@ -1,8 +1,7 @@
 -- What is left open of a stored port.
-use Rattle.std.proofs.Common.{◌≡◌, ℕ, ◌<◌, ◌≤◌, Bool, true, false, not, ◌&&◌, refl, ap, sym, ◌∙◌, Some, None, arith, le-leb, zero-le}
-use Rattle.std.specs.Prelude.{IsTrue, nat_le}
+use Rattle.std.proofs.Common.{◌≡◌, ℕ, ◌≤◌, false, not, ◌&&◌, refl, ap, sym, ◌∙◌, Some, None, le-leb, zero-le}
+use Rattle.std.specs.Prelude.{IsTrue}
 use Rattle.std.specs.Option.{option_map_or}
-use Rattle.std.specs.List.{list_all}
 use Rattle.std.proofs.lemmas.Bool.{and_parts, and_from, not-true, true_from_ne_false, not_from_false}
 use Rattle.instance_set.specs.declared.set.InstanceSet.{InstanceSet}
 use Rattle.instance_set.specs.InstanceSets.{is_member, IsLeastFrom}

@@ -1,5 +1,5 @@
 -- Where the greatest value is no more than the least, there is one.
-use Rattle.std.proofs.Common.{◌≡◌, rules, sym, ap₂, ◌∙◌, w64, SFits, to_z, of_z}
+use Rattle.std.proofs.Common.{rules, sym, ap₂, ◌∙◌, w64, SFits}
 use Rattle.std.specs.Prelude.{int_le}
 use Rattle.std.proofs.lemmas.Int.{to_z-of_z}
 use Rattle.branch_cut.proofs.FixedLaws.{one_left}
