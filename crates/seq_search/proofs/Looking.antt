@@ -1,6 +1,6 @@
 -- What is found in a state is found below the branch that led to it.
 use Rattle.std.proofs.Common.{◌≡◌, ℕ, zero, suc, ◌+◌, ◌-◌, ◌<◌, ◌≤◌, List, Option, None, Some, Bool, true, false, refl, ap, subst, sym, ◌∙◌, arith}
-use Rattle.std.specs.Prelude.{IsTrue, IsFalse, IfSome}
+use Rattle.std.specs.Prelude.{IsTrue, IsFalse, IfSome, IfOk, Result, Ok, Err}
 use Rattle.std.proofs.lemmas.Bool.{true≢false, false≢true}
 use Rattle.base_laws.specs.Places.{IsAt}
 use Rattle.config_value.specs.declared.configuration.Instance.{Instance}
@@ -59,8 +59,8 @@ whole_found j piece nogoods best s task state whole Ended tested = λ c sought c
     subst (λ x. IsFalse (beats_best j best x)) (sym is) (tested (subst (IsSought j piece) is sought))
 whole_found j piece nogoods best s task state whole (Learnt n) tested = absurd tested
 whole_found j piece nogoods best s task state whole (Better d) tested = record {
-  sought = tested.1.0;
-  better = tested.1.1;
+  sought = tested.1;
+  better = tested.2;
   only = λ c sought covers. whole_covers_one j s task state whole c sought.wanted covers ∙ sym tested.0;
 }
 whole_found j piece nogoods best s task state whole (Split b) tested = absurd tested
@@ -147,3 +147,14 @@ pub lesser_below : (j : Task) (t1 t2 : Trace) (b : Open) → t1.job ≡ j → Is
 lesser_below j t1 t2 b job entered on right =
     let falls = subst (λ k. size_of k.model t2.state ≤ size_of k.model t1.state) (on.job ∙ job) (extended_size t1 t2 on right) in
     omega (arith, falls, entered.1)
+
+-- ---- answers
+
+-- what holds of what is found holds of what was answered
+pub if_ok : {A E : Type 0} (P Q : A → Type 0) (r : Result A E) → ((x : A) → P x → Q x) → IfOk r P → IfOk r Q
+if_ok P Q (Ok x) on p = on x p
+if_ok P Q (Err e) on p = p
+
+pub all_ok : {A E : Type 0} (r : Result A E) → IfOk r (λ x. Unit {0})
+all_ok (Ok x) = tt
+all_ok (Err e) = tt

@@ -2,7 +2,6 @@
 #![tactic(auto)]
 
 mod advance;
-mod branching;
 mod found;
 mod node;
 mod open_branch;

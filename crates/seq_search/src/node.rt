@@ -15,11 +15,10 @@ ghost use Rattle.seq_search.specs.OpenBranches.{CoversOpen, open_size};
 ghost use Rattle.seq_search.specs.steps.Opens.{open_at, MayBeTaken};
 ghost use Rattle.seq_search.specs.steps.Nodes.{IsEntered, IsFound, IsEnd, IfSplit, IsTested, is_left as is_left_of};
 
-use crate::branching::{choose, is_stuck};
 use crate::found::Found;
 use crate::open_branch::OpenBranch;
 use crate::seeking::{beats_best, is_sought};
-use branch_cut::Branch;
+use branch_cut::{choose, is_stuck};
 use config_value::{Configuration, Literal};
 use conflict_learn::{Learned, learn};
 use literal_book::Piece;

@@ -12,4 +12,5 @@ returns-clause-entered c =
     (entered c.args.trail.now c.assume.new.self c.args.l Assumed c.requires.right c.requires.taken c.in_ok-change.change c.in_ok-change.ensures.pushed)
 
 pub returns-clause-extends : goal.returns-clause-extends
-returns-clause-extends c = ?
+returns-clause-extends c =
+    extends_pushed c.args.trail.now c.assume.new.self c.args.l Assumed c.requires.right c.requires.taken c.in_ok-change.change c.in_ok-change.ensures.pushed
