@@ -104,13 +104,17 @@ not_true false h = refl
 
 -- ---- a node
 
-module _ (Settled : Task → State → Type 0) (j : Task) (piece : Piece) (nogoods : List Nogood) (best : Option (List Instance)) (t0 t2 : Trace) (rest : List OpenBranch) (k : OpenBranch)
+module _ (j : Task) (piece : Piece) (nogoods : List Nogood) (best : Option (List Instance)) (t0 t2 : Trace) (rest : List OpenBranch) (k : OpenBranch)
     (on : Extends (cut_to t0 k.len) t2) (standing : IsStanding j t0 piece (rest ++ k ∷ []) best) where
   abbrev Taken : List Instance → Type 0
   Taken = CoversOpen j.model (open_at t0 k)
 
   apart : IsStacked 0 k.len rest × (k.len ≤ length_of t0)
   apart = stacked_last 0 (length_of t0) rest k standing.stacked
+
+  -- the branch was left within the trail
+  pub within_last : k.len ≤ length_of t0
+  within_last = apart.1
 
   cut_length : length_of (cut_to t0 k.len) ≡ k.len
   cut_length = length-take-le k.len t0.stages apart.1
@@ -208,7 +212,7 @@ module _ (Settled : Task → State → Type 0) (j : Task) (piece : Piece) (nogoo
       let each : AllByRecursion (λ n. n < open_size j.model (open_at t0 k)) sizes = (omega (arith, lesser, some), (omega (arith, lesser, some), tt)) in
       record { few = omega arith; less = All-from_recursion (λ n. n < open_size j.model (open_at t0 k)) sizes each }
 
-  module _ (learnt : List Nogood) where
+  module _ (Settled : Task → State → Type 0) (learnt : List Nogood) where
     -- the search as it stood
     abbrev pub stood : Search
     stood = record { job = j; piece = piece; branches = opens t0 (rest ++ k ∷ []); best = best; nogoods = nogoods; learnt = learnt }

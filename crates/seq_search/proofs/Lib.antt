@@ -7,3 +7,4 @@ pub mod Commits
 pub mod Expanding
 pub mod Sought
 pub mod Looking
+pub mod Whole

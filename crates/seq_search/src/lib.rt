@@ -2,6 +2,8 @@
 #![tactic(auto)]
 
 mod advance;
+mod commit;
+mod expand;
 mod found;
 mod node;
 mod open_branch;

@@ -105,14 +105,18 @@ branches_after q (Split b) =
     (record { state = q; literal = Some b.second })
     ∷ (record { state = q; literal = Some b.first }) ∷ []
 
+-- as two are kept, at a length of the trail
+abbrev pub split_at : ℕ → Branch → List OpenBranch
+split_at end b =
+    (record { len = end; literal = Some b.second })
+    ∷ (record { len = end; literal = Some b.first }) ∷ []
+
 -- as they are kept, at the length that the trail has then
 abbrev pub kept_after : ℕ → Found → List OpenBranch
 kept_after end Ended = []
 kept_after end (Learnt n) = []
 kept_after end (Better d) = []
-kept_after end (Split b) =
-    (record { len = end; literal = Some b.second })
-    ∷ (record { len = end; literal = Some b.first }) ∷ []
+kept_after end (Split b) = split_at end b
 
 -- the best then
 abbrev pub best_after : Option (List Instance) → Found → Option (List Instance)
