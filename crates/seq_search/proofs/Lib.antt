@@ -8,3 +8,5 @@ pub mod Expanding
 pub mod Sought
 pub mod Looking
 pub mod Whole
+pub mod Begun
+pub mod Advanced

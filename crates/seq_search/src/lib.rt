@@ -7,6 +7,9 @@ mod expand;
 mod found;
 mod node;
 mod open_branch;
+mod searcher;
 mod seeking;
+mod starting;
 
 pub use advance::Advance;
+pub use searcher::Searcher;

@@ -84,7 +84,7 @@ fn enter(trail: &mut Trail, taken: OpenBranch) -> Result<bool, AllocError>
 }
 
 /// Narrows by a literal that fits and is not entailed. Whether anything may be left.
-fn narrow(trail: &mut Trail, l: Literal) -> Result<bool, AllocError>
+pub(crate) fn narrow(trail: &mut Trail, l: Literal) -> Result<bool, AllocError>
     requires right { IsTrail trail.old }
     requires taken { MayBeTaken trail.old.job.model
         (record { state = trail.old.state; literal = Some l }) }
