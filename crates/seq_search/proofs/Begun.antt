@@ -3,7 +3,7 @@ use Rattle.std.proofs.Common.{◌≡◌, ℕ, ◌<◌, ◌≤◌, get_or, length
 use Rattle.std.specs.Prelude.{IsTrue, IfSome}
 use Rattle.std.specs.List.{list_all}
 use Rattle.std.proofs.lemmas.Bool.{and_from}
-use Rattle.std.proofs.lemmas.Option.{slice_get-get_or}
+use Rattle.base_laws.specs.Places.{IsAt}
 use Rattle.base_laws.proofs.Tests.{list_all_at}
 use Rattle.prod_model.specs.declared.model.Model.{Model}
 use Rattle.config_value.specs.declared.configuration.Instance.{Instance}
@@ -25,14 +25,10 @@ use Rattle.seq_search.specs.steps.Opens.{IsStanding}
 use Rattle.seq_search.specs.steps.Starting.{IsNarrowed}
 use Rattle.seq_search.proofs.Accounts.{begins}
 
--- what has all the literals has the one at a place
-has_one : (m : Model) (ls : List Literal) (k : ℕ) (d : Literal) → k < length ls → (c : List Instance) → IsTrue (has_literals m c ls) → IsTrue (has_literals m c (get_or ls k d ∷ []))
-has_one m ls k d within c has = and_from _ _ (list_all_at (has_literal m c) ls has k (get_or ls k d) (slice_get-get_or ls k d within)) refl
-
 -- what narrows by one of some literals narrows by all of them
-pub narrowed_by_all : (m : Model) (ls : List Literal) (k : ℕ) (d : Literal) → k < length ls → (s t : State) (left : Bool) → IsNarrowed m (get_or ls k d ∷ []) s t left → IsNarrowed m ls s t left
-narrowed_by_all m ls k d within s t true narrowed = λ c satisfied has. narrowed c satisfied (has_one m ls k d within c has)
-narrowed_by_all m ls k d within s t false narrowed = λ c satisfied has. narrowed c satisfied (has_one m ls k d within c has)
+pub narrowed_by_all : (m : Model) (ls : List Literal) (k : ℕ) (l : Literal) → IsAt ls k l → (s t : State) (left : Bool) → IsNarrowed m (l ∷ []) s t left → IsNarrowed m ls s t left
+narrowed_by_all m ls k l at s t true narrowed = λ c satisfied has. narrowed c satisfied (and_from _ _ (list_all_at (has_literal m c) ls has k l at) refl)
+narrowed_by_all m ls k l at s t false narrowed = λ c satisfied has. narrowed c satisfied (and_from _ _ (list_all_at (has_literal m c) ls has k l at) refl)
 
 -- one narrowing after another
 pub narrowed_on : (m : Model) (ls : List Literal) (s t u : State) (left : Bool) → IsNarrowed m ls s t true → IsNarrowed m ls t u left → IsNarrowed m ls s u left

@@ -4,4 +4,5 @@ pub mod Accounts
 pub mod Weights
 pub mod Searches
 pub mod Advances
+pub mod Solvers
 pub mod steps

@@ -134,9 +134,10 @@ impl<P: Propagate + Drop> Searcher<P> {
         requires { IsWanted self.old.job c }
         ensures { self.new ≡ lowered self.old c }
     {
-        if self.is_beaten_by(&c) {
-            self.best = Some(c);
+        if !self.is_beaten_by(&c) {
+            return;
         }
+        self.best = Some(c);
     }
 
     /// The best so far: a wanted configuration that was found in the piece or given to `lower`. Where

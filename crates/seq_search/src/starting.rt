@@ -1,6 +1,6 @@
 //! How a search begins: the root state, narrowed by the literals of the piece that fit.
-ghost use Rattle.std.specs.Prelude.{◌≡◌, ◌≤◌, ◌∷◌, [], IfOk, None, length};
-ghost use Rattle.reason_trail.specs.Jobs.{Task};
+ghost use Rattle.std.specs.Prelude.{◌≡◌, ◌≤◌, ◌<◌, ◌∷◌, [], IfOk, None, length};
+ghost use Rattle.base_laws.specs.Places.{IsAt};
 ghost use Rattle.reason_trail.specs.Trails.{started};
 ghost use Rattle.seq_search.specs.steps.Opens.{IsStanding};
 ghost use Rattle.seq_search.specs.steps.Starting.{IsNarrowed};
@@ -44,11 +44,19 @@ fn narrow_each(trail: &mut Trail, literals: &[Literal]) -> Result<bool, AllocErr
     ensures same_job { trail.new.job ≡ trail.old.job }
 {
     for k in 0..literals.len() {
-        if !narrow_if(trail, literals[k])? {
+        if !narrow_if(trail, literal_at(literals, k))? {
             return Ok(false);
         }
     }
     Ok(true)
+}
+
+/// The literal at a place.
+fn literal_at(literals: &[Literal], k: usize) -> Literal
+    requires { k < length literals.now }
+    ensures { IsAt literals.now k result }
+{
+    literals[k]
 }
 
 /// Narrows by a literal, if it fits and is not entailed. Whether anything that has it may be left.

@@ -10,11 +10,4 @@ invariant_of-self g c =
     let s = c.self.inside in
     lowered_kept (g.P.Propagate.job s.props) s.trail s.store s.piece s.branches.items s.best s.learnt.items c.args.c
     (subst (λ x. IsWanted x.job c.args.c) (sym c.self.view_is) c.requires)
-    (subst (λ x. IsTrue (beats_best x.job x.best c.args.c)) (sym c.self.view_is) (sym c.is_beaten_by.ensures ∙ c.if-is_beaten_by.true)) c.self.invariant
-
-pub invariant_of-self-then-is_beaten_by-2 : goal.invariant_of-self-then-is_beaten_by-2
-invariant_of-self-then-is_beaten_by-2 g c =
-    let s = c.self.inside in
-    lowered_kept (g.P.Propagate.job s.props) s.trail s.store s.piece s.branches.items s.best s.learnt.items c.args.c
-    (subst (λ x. IsWanted x.job c.args.c) (sym c.self.view_is) c.requires)
-    (subst (λ x. IsTrue (beats_best x.job x.best c.args.c)) (sym c.self.view_is) (sym c.is_beaten_by.ensures ∙ c.if-is_beaten_by.true)) c.self.invariant
+    (subst (λ x. IsTrue (beats_best x.job x.best c.args.c)) (sym c.self.view_is) (sym c.is_beaten_by.ensures ∙ c.if-not-is_beaten_by.false)) c.self.invariant
