@@ -62,9 +62,9 @@ module _ (j : Task) (piece : Piece) (rest : List Open) where
       → AccountsForAll j piece (rest ++ b ∷ []) best → AccountsForAll j piece (rest ++ put) best
   replaces b put best again all c sought = elim (all c sought) [
     | covered x among covers ↦ elim (Contains-push_cases rest b x among) [
-        | inl kept ↦ covered x (Contains-append_left rest put x kept) covers
-        | inr same ↦ again c sought (subst (λ y. CoversOpen j.model y c) (sym same) covers)
-      ]
+      | inl kept ↦ covered x (Contains-append_left rest put x kept) covers
+      | inr same ↦ again c sought (subst (λ y. CoversOpen j.model y c) (sym same) covers)
+    ]
     | no_better h ↦ no_better h
   ]
 
@@ -74,9 +74,9 @@ module _ (j : Task) (piece : Piece) (rest : List Open) where
       → AccountsForAll j piece (rest ++ b ∷ []) best → AccountsForAll j piece rest best
   ends b best none all c sought = elim (all c sought) [
     | covered x among covers ↦ elim (Contains-push_cases rest b x among) [
-        | inl kept ↦ covered x kept covers
-        | inr same ↦ no_better (none c sought (subst (λ y. CoversOpen j.model y c) (sym same) covers))
-      ]
+      | inl kept ↦ covered x kept covers
+      | inr same ↦ no_better (none c sought (subst (λ y. CoversOpen j.model y c) (sym same) covers))
+    ]
     | no_better h ↦ no_better h
   ]
 

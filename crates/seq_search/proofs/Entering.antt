@@ -31,8 +31,8 @@ module _ (t new : Trace) (l : Literal) (why : Why) (right : IsTrail t) (may : Ma
       → IsEntered t.job.model (record { state = t.state; literal = Some l }) new.state (is_left change)
   entered Smaller on = (
     λ c satisfied covers.
-      let formed = is_formed t.job.model c satisfied in
-      change_keeps t.job.model l Smaller t.state new.state c right.task.valid (now_is_state t right) may.0 on.changed (λ e. absurd cc) covers.covered formed.shaped formed.numbered covers.holds,
+        let formed = is_formed t.job.model c satisfied in
+        change_keeps t.job.model l Smaller t.state new.state c right.task.valid (now_is_state t right) may.0 on.changed (λ e. absurd cc) covers.covered formed.shaped formed.numbered covers.holds,
     (let less = fitting_is_less t.job.model l t.state new.state right.task.valid (now_is_state t right) may.0 on.changed in omega (arith, less)),
   )
   entered Same on =

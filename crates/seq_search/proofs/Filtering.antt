@@ -49,9 +49,11 @@ kept_met test mask n (b ∷ keep) (r ∷ rs) all kept =
   where
     later : (n k : ℕ) → (n + 1) + k ≡ n + suc k
     later n k = omega arith
+
     same : (b : Bool) → IsAt (b ∷ keep) 0 true → b ≡ true
     same true there = refl
     same false there = absurd cc
+
     head : (a : Bool) → asks_for mask n ≡ a → IsTrue (not a || test r)
     head false is = refl
     head true is =

@@ -36,7 +36,7 @@ pub excluded_is_barren : (j : Task) (piece : Piece) (h : Held) (s : State) → I
 excluded_is_barren j piece h s store model order state applies best c sought covers =
     let one = applies.1 in
     let sound : IsSound j.model j.order one.nogood =
-        subst (λ o. IsSound j.model o one.nogood) order (subst (λ m. IsSound m h.order one.nogood) model (store.sound applies.0 one.nogood one.there)) in
+    subst (λ o. IsSound j.model o one.nogood) order (subst (λ m. IsSound m h.order one.nogood) model (store.sound applies.0 one.nogood one.there)) in
     absurd (nogood_ends j s one.nogood state sound one.applies c sought.wanted covers)
 
 -- one in which filtering fails is barren

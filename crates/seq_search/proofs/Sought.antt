@@ -119,9 +119,9 @@ pub sought_exactly : (j : Task) (piece : Piece) (c : List Instance) → IsTrue (
     → (IsTrue (meets_kept j.model j.order j.goal.keep c && (meets_extra j.model j.goal.extra c && (ranks_after j.model j.order j.goal.after c && in_piece j.model piece c))) ↔ IsSought j piece c)
 sought_exactly j piece c satisfied = (
   λ h.
-    let a = and_parts (meets_kept j.model j.order j.goal.keep c) _ h in
-    let b = and_parts (meets_extra j.model j.goal.extra c) _ a.1 in
-    let d = and_parts (ranks_after j.model j.order j.goal.after c) _ b.1 in
-    record { wanted = record { candidate = record { satisfied = satisfied; met = a.0 }; extra_met = b.0; later = d.0 }; within = d.1 },
+      let a = and_parts (meets_kept j.model j.order j.goal.keep c) _ h in
+      let b = and_parts (meets_extra j.model j.goal.extra c) _ a.1 in
+      let d = and_parts (ranks_after j.model j.order j.goal.after c) _ b.1 in
+      record { wanted = record { candidate = record { satisfied = satisfied; met = a.0 }; extra_met = b.0; later = d.0 }; within = d.1 },
   λ s. and_from _ _ s.wanted.candidate.met (and_from _ _ s.wanted.extra_met (and_from _ _ s.wanted.later s.within)),
 )

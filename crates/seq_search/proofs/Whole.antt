@@ -59,7 +59,7 @@ module _ (made : Task) (t0 : Trace) (h0 : Held) (piece : Piece) (items : List Op
     pub same_search : search_of t2 h1 piece items best learnt ≡ search_of t0 h0 piece items best learnt
     same_search =
         let branches : opens t2 items ≡ opens t0 items =
-            subst (λ bs. opens t2 bs ≡ opens t0 bs) (sym apart) (kept_opens t0.job piece h0.nogoods best t0 t2 (but_last items) k on standing) in
+        subst (λ bs. opens t2 bs ≡ opens t0 bs) (sym apart) (kept_opens t0.job piece h0.nogoods best t0 t2 (but_last items) k on standing) in
         λ i. record { job = on.job i; piece = piece; branches = branches i; best = best; nogoods = searched.nogoods i; learnt = learnt }
 
     pub still_kept : IsKept made2 t2 h1 piece items best learnt

@@ -46,7 +46,5 @@ pub(crate) fn expand<P: Propagate>(
     let found = explore(alloc, trail, props, store, job, piece, best, taken)?;
     let _state = trail.state();
     let end = trail.len();
-    Ok(commit(
-        alloc, branches, best, store, learnt, found, end,
-    )?)
+    Ok(commit(alloc, branches, best, store, learnt, found, end)?)
 }

@@ -75,7 +75,7 @@ returns-clause-kept g c =
     let apart = split_last items c.len.result k (omega (arith, c.len.ensures)) (omega (arith, c.requires.some)) c.index-taken.ensures in
     let e = c.in_ok-commit.ensures in
     let f : IsFound t0.job c.args.piece.now c.args.store.now.nogoods c.args.best.now (CoversOpen t0.job.model (open_at t0 k)) t2.state found =
-        subst (λ j. IsFound j c.args.piece.now c.args.store.now.nogoods c.args.best.now (CoversOpen j.model (open_at t0 k)) t2.state found) (sym c.requires.job) c.in_ok-found.ensures.found in
+    subst (λ j. IsFound j c.args.piece.now c.args.store.now.nogoods c.args.best.now (CoversOpen j.model (open_at t0 k)) t2.state found) (sym c.requires.job) c.in_ok-found.ensures.found in
     kept_same (g.P.Propagate.job c.explore.new.props) t2 c.args.piece.now c.commit.new.store c.commit.new.store
     (but_last items ++ kept_after (length_of t2) found) c.commit.new.branches.items (best_after c.args.best.now found) c.commit.new.best c.commit.new.learnt.items c.commit.new.learnt.items
     refl (e.branches ∙ ap (λ n. but_last items ++ kept_after n found) c.len-end.ensures) e.best refl
@@ -93,15 +93,15 @@ returns-clause-node g c =
     let apart = split_last items c.len.result k (omega (arith, c.len.ensures)) (omega (arith, c.requires.some)) c.index-taken.ensures in
     let e = c.in_ok-commit.ensures in
     let f : IsFound t0.job c.args.piece.now c.args.store.now.nogoods c.args.best.now (CoversOpen t0.job.model (open_at t0 k)) t2.state found =
-        subst (λ j. IsFound j c.args.piece.now c.args.store.now.nogoods c.args.best.now (CoversOpen j.model (open_at t0 k)) t2.state found) (sym c.requires.job) c.in_ok-found.ensures.found in
+    subst (λ j. IsFound j c.args.piece.now c.args.store.now.nogoods c.args.best.now (CoversOpen j.model (open_at t0 k)) t2.state found) (sym c.requires.job) c.in_ok-found.ensures.found in
     let lesser : IfSplit (size_of t0.job.model t2.state ≤ open_size t0.job.model (open_at t0 k)) found =
-        subst (λ j. IfSplit (size_of j.model t2.state ≤ open_size j.model (open_at t0 k)) found) (sym c.requires.job) c.in_ok-found.ensures.lesser in
+    subst (λ j. IfSplit (size_of j.model t2.state ≤ open_size j.model (open_at t0 k)) found) (sym c.requires.job) c.in_ok-found.ensures.lesser in
     let settled : IfSplit (g.P.Propagate.settled t0.job t2.state) found =
-        subst (λ j. IfSplit (g.P.Propagate.settled j t2.state) found) (sym c.requires.job) c.in_ok-found.ensures.settled in
+    subst (λ j. IfSplit (g.P.Propagate.settled j t2.state) found) (sym c.requires.job) c.in_ok-found.ensures.settled in
     let state : IsState t0.job.model t2.state = subst (λ j. IsState j.model t2.state) c.explore.ensures.extends.job c.state-state.ensures.problem in
     let same = search_same (g.P.Propagate.job c.explore.new.props) t2 c.args.piece.now c.commit.new.store c.commit.new.store
-        (but_last items ++ kept_after (length_of t2) found) c.commit.new.branches.items (best_after c.args.best.now found) c.commit.new.best c.commit.new.learnt.items c.commit.new.learnt.items
-        refl (e.branches ∙ ap (λ n. but_last items ++ kept_after n found) c.len-end.ensures) e.best refl in
+    (but_last items ++ kept_after (length_of t2) found) c.commit.new.branches.items (best_after c.args.best.now found) c.commit.new.best c.commit.new.learnt.items c.commit.new.learnt.items
+    refl (e.branches ∙ ap (λ n. but_last items ++ kept_after n found) c.len-end.ensures) e.best refl in
     subst (IsNode g.P.Propagate.settled (search_of t0 c.args.store.now c.args.piece.now items c.args.best.now c.args.learnt.now.items)) (sym same)
     (next_is_node (g.P.Propagate.job c.args.props.now) t0 c.args.store.now c.args.piece.now items c.args.best.now c.args.learnt.now.items k apart c.requires.kept
     (g.P.Propagate.job c.explore.new.props) t2 c.explore.new.store (c.explore.ensures.same_job ∙ sym c.requires.job) c.explore.ensures.extends c.explore.ensures.searched

@@ -18,7 +18,7 @@ returns-in-Failed-clause-found g c =
     let t2 = c.run.new.trail in
     let b = open_at t0 c.args.taken in
     let entered : IsEntered j.model b t1.state true = subst (λ k. IsEntered k.model b t1.state true) c.requires.job
-        (subst (IsEntered t0.job.model b t1.state) c.if-not-branch.false c.in_ok-enter.ensures.entered) in
+    (subst (IsEntered t0.job.model b t1.state) c.if-not-branch.false c.in_ok-enter.ensures.entered) in
     let job : t1.job ≡ j = c.enter.ensures.extends.job ∙ c.requires.job in
     if_ok (IsFound j c.args.piece.now c.args.store.now.nogoods c.args.best.now (Covers j.model t2.state) t2.state)
     (IsFound j c.args.piece.now c.args.store.now.nogoods c.args.best.now (CoversOpen j.model b) t2.state) c.taught.result
@@ -37,7 +37,7 @@ returns-in-Stable-clause-found g c =
     let t2 = c.run.new.trail in
     let b = open_at t0 c.args.taken in
     let entered : IsEntered j.model b t1.state true = subst (λ k. IsEntered k.model b t1.state true) c.requires.job
-        (subst (IsEntered t0.job.model b t1.state) c.if-not-branch.false c.in_ok-enter.ensures.entered) in
+    (subst (IsEntered t0.job.model b t1.state) c.if-not-branch.false c.in_ok-enter.ensures.entered) in
     let job : t1.job ≡ j = c.enter.ensures.extends.job ∙ c.requires.job in
     if_ok (IsFound j c.args.piece.now c.args.store.now.nogoods c.args.best.now (Covers j.model t2.state) t2.state)
     (IsFound j c.args.piece.now c.args.store.now.nogoods c.args.best.now (CoversOpen j.model b) t2.state) c.look.result
@@ -52,7 +52,7 @@ returns-in-Stable-clause-lesser g c =
     let t2 = c.run.new.trail in
     let b = open_at t0 c.args.taken in
     let entered : IsEntered j.model b t1.state true = subst (λ k. IsEntered k.model b t1.state true) c.requires.job
-        (subst (IsEntered t0.job.model b t1.state) c.if-not-branch.false c.in_ok-enter.ensures.entered) in
+    (subst (IsEntered t0.job.model b t1.state) c.if-not-branch.false c.in_ok-enter.ensures.entered) in
     let job : t1.job ≡ j = c.enter.ensures.extends.job ∙ c.requires.job in
     let lesser = lesser_below j t1 t2 b job entered c.run.ensures.filters.extends c.look.ensures.right in
     if_ok (λ found. Unit {0}) (IfSplit (size_of j.model t2.state ≤ open_size j.model b)) c.look.result (λ found h. if_split (size_of j.model t2.state ≤ open_size j.model b) lesser found) (all_ok c.look.result)

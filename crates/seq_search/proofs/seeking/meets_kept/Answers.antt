@@ -14,7 +14,7 @@ returns-then-not-meets_if c =
     let keep : c.as_slice-kept-items.result.now ≡ j.goal.keep = c.as_slice-kept-items.ensures ∙ ap (λ g. g.keep) c.goal.ensures in
     let within : c.loop-k.k < length j.goal.keep = subst (λ ks. c.loop-k.k < length ks) keep c.loop-k-test.true in
     let kept : IsAt j.goal.keep c.loop-k.k (get_or c.as_slice-kept-items.result.now c.loop-k.k false) =
-        subst (λ ks. IsAt ks c.loop-k.k (get_or c.as_slice-kept-items.result.now c.loop-k.k false)) keep (slice_get-get_or c.as_slice-kept-items.result.now c.loop-k.k false c.loop-k-test.true) in
+    subst (λ ks. IsAt ks c.loop-k.k (get_or c.as_slice-kept-items.result.now c.loop-k.k false)) keep (slice_get-get_or c.as_slice-kept-items.result.now c.loop-k.k false c.loop-k-test.true) in
     let asked = element_at j.order.requests c.loop-k.k (omega (arith, within, c.problem-problem.ensures.fitting.each_request)) in
     sym (one_fails (λ kept r. not kept || meets j.model c.args.c.now r) j.goal.keep j.order.requests c.loop-k.k (get_or c.as_slice-kept-items.result.now c.loop-k.k false) asked.0 kept asked.1 (sym (c.meets_if.ensures asked.0 asked.1) ∙ c.if-not-meets_if.true))
 
@@ -24,7 +24,7 @@ loop-k-preserved c =
     let keep : c.as_slice-kept-items.result.now ≡ j.goal.keep = c.as_slice-kept-items.ensures ∙ ap (λ g. g.keep) c.goal.ensures in
     let within : c.loop-k.k < length j.goal.keep = subst (λ ks. c.loop-k.k < length ks) keep c.loop-k-test.true in
     let kept : IsAt j.goal.keep c.loop-k.k (get_or c.as_slice-kept-items.result.now c.loop-k.k false) =
-        subst (λ ks. IsAt ks c.loop-k.k (get_or c.as_slice-kept-items.result.now c.loop-k.k false)) keep (slice_get-get_or c.as_slice-kept-items.result.now c.loop-k.k false c.loop-k-test.true) in
+    subst (λ ks. IsAt ks c.loop-k.k (get_or c.as_slice-kept-items.result.now c.loop-k.k false)) keep (slice_get-get_or c.as_slice-kept-items.result.now c.loop-k.k false c.loop-k-test.true) in
     let asked = element_at j.order.requests c.loop-k.k (omega (arith, within, c.problem-problem.ensures.fitting.each_request)) in
     one_more (λ kept r. not kept || meets j.model c.args.c.now r) j.goal.keep j.order.requests c.loop-k.k (get_or c.as_slice-kept-items.result.now c.loop-k.k false) asked.0 kept asked.1 (sym (c.meets_if.ensures asked.0 asked.1) ∙ c.if-not-meets_if.false) c.loop-k.invariant
 

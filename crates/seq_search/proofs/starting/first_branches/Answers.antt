@@ -17,7 +17,7 @@ returns-then-not-branch-clause-standing c =
     let t = c.narrow_each.new.trail in
     let ls = c.as_slice.ensures in
     let narrowed : IsNarrowed t0.job.model c.args.piece.now.literals t0.state t.state false =
-        subst (λ x. IsNarrowed t0.job.model x t0.state t.state false) ls (subst (IsNarrowed t0.job.model c.as_slice.result.now t0.state t.state) c.if-not-branch.true c.in_ok-narrow_each.ensures.narrowed) in
+    subst (λ x. IsNarrowed t0.job.model x t0.state t.state false) ls (subst (IsNarrowed t0.job.model c.as_slice.result.now t0.state t.state) c.if-not-branch.true c.in_ok-narrow_each.ensures.narrowed) in
     subst (λ bs. IsStanding t0.job t c.args.piece.now bs None) (sym c.new-branches.ensures.items)
     (none_stands t0.job c.args.piece.now t0 t c.job-task.ensures.right.task c.requires narrowed)
 
@@ -28,7 +28,7 @@ returns-clause-standing c =
     let t = c.narrow_each.new.trail in
     let ls = c.as_slice.ensures in
     let narrowed : IsNarrowed t0.job.model c.args.piece.now.literals t0.state t.state true =
-        subst (λ x. IsNarrowed t0.job.model x t0.state t.state true) ls (subst (IsNarrowed t0.job.model c.as_slice.result.now t0.state t.state) c.if-not-branch.false c.in_ok-narrow_each.ensures.narrowed) in
+    subst (λ x. IsNarrowed t0.job.model x t0.state t.state true) ls (subst (IsNarrowed t0.job.model c.as_slice.result.now t0.state t.state) c.if-not-branch.false c.in_ok-narrow_each.ensures.narrowed) in
     let items : c.push.new.self.items ≡ one_at c.len.result = c.in_ok-push.ensures.items ∙ ap (λ xs. xs ++ one_at c.len.result) c.new-branches.ensures.items in
     subst (λ bs. IsStanding t0.job t c.args.piece.now bs None) (sym (items ∙ ap one_at c.len.ensures))
     (first_stands t0.job c.args.piece.now t0 t c.job-task.ensures.right.task c.requires narrowed)
