@@ -1,0 +1,12 @@
+pub mod Accounts
+pub mod Weights
+pub mod Filtering
+pub mod Along
+pub mod Entering
+pub mod Commits
+pub mod Expanding
+pub mod Sought
+pub mod Looking
+pub mod Whole
+pub mod Begun
+pub mod Advanced
