@@ -46,8 +46,7 @@ pub data IsVerdict (m : Model) (o : Order) (c : List Instance) (status : Status)
       → status ≡ Broken → text ≡ unmet_text o k → IsVerdict m o c status text
 
 -- What the bytes of a model, an order and an answer result in: the first fault of the model; else
--- that of the order; else that of the answer; else what is told of the answer's configuration. Any
--- model and order without fault are taken, not just plain ones.
+-- that of the order; else that of the answer; else what is told of the answer's configuration.
 pub data IsChecked (model order answer : List ℕ) (status : Status) (text : List ℕ) : Type 0 where
   refused_model : (f : Fault) → IsFaultOfFile HasModelFault model f
       → status ≡ Refused → text ≡ refused_text (codes "model") f.code f.place

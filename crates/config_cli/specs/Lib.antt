@@ -1,5 +1,4 @@
 pub mod Commands
-pub mod Plain
 pub mod Texts
 pub mod Statuses
 pub mod CheckTexts

@@ -1,5 +1,5 @@
 -- What words and files result in: a status and a text.
-use Rattle.std.specs.Prelude.{◌≡◌, ℕ, ◌+◌, Bool, true, false, IsTrue, IsFalse, List, [], ◌∷◌, Some, codes}
+use Rattle.std.specs.Prelude.{◌≡◌, ℕ, Bool, List, Some, codes}
 use Rattle.prod_model.specs.declared.model.Model.{Model}
 use Rattle.prod_model.specs.declared.model.Order.{Order}
 use Rattle.config_value.specs.declared.configuration.Instance.{Instance}
@@ -10,20 +10,14 @@ use Rattle.file_values.specs.declared.fault.Fault.{Fault}
 use Rattle.file_meaning.specs.Faults.{HasModelFault, HasOrderFault, IsFaultOfFile}
 use Rattle.canonical_form.specs.AnswerText.{answer_text}
 use Rattle.canonical_form.specs.ConflictText.{conflict_text}
+use Rattle.quickxplain.specs.Testers.{places_kept}
 use Rattle.cfg_io.specs.Shelves.{file}
 use Rattle.config_cli.specs.Checked.{IsChecked}
 use Rattle.config_cli.specs.Commands.{Configure, Check, Asks, AsksNothing}
 use Rattle.config_cli.specs.Files.{IsModelFile, IsOrderFile}
-use Rattle.config_cli.specs.Plain.{is_plain, is_plain_order}
-use Rattle.config_cli.specs.Texts.{usage_text, refused_text, unsupported_text}
+use Rattle.config_cli.specs.Texts.{usage_text, refused_text}
 use Rattle.config_cli.specs.declared.status.Status.{Status}
 use Rattle.config_cli.specs.declared.status.Status.TheVariants.{Preferred, Conflict, Usage, Refused}
-
--- the places of the requests that a set keeps, from a first place on
-abbrev pub places_kept : ℕ → List Bool → List ℕ
-places_kept from [] = []
-places_kept from (true ∷ keep) = from ∷ places_kept (from + 1) keep
-places_kept from (false ∷ keep) = places_kept (from + 1) keep
 
 -- the configuration that is preferred for all requests; or, where there is none, the preferred
 -- conflict
@@ -34,26 +28,17 @@ pub data IsPreferredOutcome (m : Model) (o : Order) (status : Status) (text : Li
       → status ≡ Conflict → text ≡ conflict_text o (places_kept 0 keep)
       → IsPreferredOutcome m o status text
 
--- What the bytes of a model and an order result in: the first fault of the model; else, where the
--- model isn't plain, that it can't be configured yet; else the same of the order; else the
--- preferred outcome.
+-- What the bytes of a model and an order result in: the first fault of the model; else that of the
+-- order; else the preferred outcome.
 pub data IsConfigured (model order : List ℕ) (status : Status) (text : List ℕ) : Type 0 where
   refused_model : (f : Fault) → IsFaultOfFile HasModelFault model f
       → status ≡ Refused → text ≡ refused_text (codes "model") f.code f.place
       → IsConfigured model order status text
-  unsupported_model : (m : Model) → IsModelFile model m → IsFalse (is_plain m)
-      → status ≡ Refused → text ≡ unsupported_text (codes "model")
-      → IsConfigured model order status text
-  refused_order : (m : Model) → IsModelFile model m → IsTrue (is_plain m)
+  refused_order : (m : Model) → IsModelFile model m
       → (f : Fault) → IsFaultOfFile (HasOrderFault m) order f
       → status ≡ Refused → text ≡ refused_text (codes "order") f.code f.place
       → IsConfigured model order status text
-  unsupported_order : (m : Model) → IsModelFile model m → IsTrue (is_plain m)
-      → (o : Order) → IsOrderFile m order o → IsFalse (is_plain_order o)
-      → status ≡ Refused → text ≡ unsupported_text (codes "order")
-      → IsConfigured model order status text
-  preferred_outcome : (m : Model) → IsModelFile model m → IsTrue (is_plain m)
-      → (o : Order) → IsOrderFile m order o → IsTrue (is_plain_order o)
+  preferred_outcome : (m : Model) → IsModelFile model m → (o : Order) → IsOrderFile m order o
       → IsPreferredOutcome m o status text → IsConfigured model order status text
 
 -- What words and named files result in. Nothing where a file that they ask for isn't there.

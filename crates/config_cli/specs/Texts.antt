@@ -25,7 +25,3 @@ unfoldable pub refused_text : List ℕ → FaultCode → List Part → List ℕ
 refused_text file code place =
     codes "refused " ++ file ++ codes " " ++ code_text (number_of code)
     ++ codes " " ++ place_text place ++ line_end
-
--- a file without fault that can't be configured yet
-unfoldable pub unsupported_text : List ℕ → List ℕ
-unsupported_text file = codes "refused " ++ file ++ codes " F90 /" ++ line_end

@@ -4,17 +4,18 @@
 
 ghost use Rattle.std.specs.Prelude.{◌≡◌, ◌⊎◌};
 
+mod asking;
 mod check;
 mod check_texts;
 mod commands;
+mod idle;
 mod item_names;
 mod names;
 mod outcome;
-mod plain;
 mod run;
+mod solved;
 mod status;
 mod texts;
-mod walk;
 
 use cfg_io::{DiskShelf, OutSink};
 pub use run::run_alone;

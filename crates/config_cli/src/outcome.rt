@@ -1,23 +1,21 @@
 // What the files of a command result in.
-ghost use Rattle.std.specs.Prelude.{◌≡◌, ℕ, List, IfErr, IfOk, IsTrue};
+ghost use Rattle.std.specs.Prelude.{◌≡◌, ℕ, List, IfErr, IfOk};
 ghost use Rattle.prod_model.specs.Valid.{IsValidOrder};
 ghost use Rattle.file_meaning.specs.Faults.{HasModelFault, HasOrderFault};
 ghost use Rattle.file_meaning.specs.Refused.{IsRefusalOfFile};
-ghost use Rattle.config_cli.specs.Plain.{is_plain, is_plain_order};
 ghost use Rattle.config_cli.specs.Files.{IsModelFile, IsOrderFile};
-ghost use Rattle.config_cli.specs.Results.{IsConfigured, IsPreferredOutcome};
-ghost use Rattle.config_cli.specs.Texts.{unsupported_text};
-ghost use Rattle.config_cli.specs.steps.Calls.{IsExactly, IsOfOutcome};
+ghost use Rattle.config_cli.specs.Results.{IsConfigured};
+ghost use Rattle.config_cli.specs.steps.Calls.{IsOfOutcome};
 ghost use Rattle.config_cli.specs.steps.Fetched.{ForFile, HasKnownPlace, IsFetchOf, Refuses};
 
-use crate::plain::{is_plain, is_plain_order};
+use crate::idle::Idle;
+use crate::solved::preferred_outcome;
 use crate::status::Status;
-use crate::texts::{refused_text, unsupported_text};
-use crate::walk::preferred_plain;
-use canonical_form::{write_answer, write_conflict};
+use crate::texts::refused_text;
 use model_reader::{Refusal, read_model, too_long};
 use order_reader::read_order;
 use prod_model::{Order, Problem};
+use seq_search::Alone;
 use std::alloc::{AllocError, Global};
 
 /// A file as it was read.
@@ -77,39 +75,6 @@ pub fn refused(alloc: Global, file: &str, refusal: Refusal) -> Result<Outcome, A
     }
 }
 
-// The line of a file without fault that can't be configured yet.
-fn unsupported(alloc: Global, file: &str) -> Result<Outcome, AllocError>
-    ensures line { IfOk result
-        (λ a. IsExactly Status.Refused (unsupported_text file.now) a.status a.text.items) }
-    ensures status { IfOk result (λ a. IsOfOutcome a.status) }
-{
-    Ok(Outcome {
-        status: Status::Refused,
-        text: unsupported_text(alloc, file)?,
-    })
-}
-
-// The preferred configuration, or the preferred conflict. It has no requests where there are none.
-fn preferred_outcome(alloc: Global, problem: &Problem, order: &Order) -> Result<Outcome, AllocError>
-    requires plain { IsTrue (is_plain problem.now) }
-    requires valid_order { IsValidOrder problem.now order.now }
-    requires plain_order { IsTrue (is_plain_order order.now) }
-    ensures outcome { IfOk result (λ a.
-        IsPreferredOutcome problem.now order.now a.status a.text.items) }
-    ensures status { IfOk result (λ a. IsOfOutcome a.status) }
-{
-    match preferred_plain(alloc, problem, order)? {
-        Some(c) => Ok(Outcome {
-            status: Status::Preferred,
-            text: write_answer(alloc, problem, &c)?,
-        }),
-        None => Ok(Outcome {
-            status: Status::Conflict,
-            text: write_conflict(alloc, order, &[])?,
-        }),
-    }
-}
-
 /// What a model's and an order's file result in.
 pub fn configured(alloc: Global, model: Fetched, order: Fetched) -> Result<Outcome, AllocError>
     ensures status { IfOk result (λ a. IsOfOutcome a.status) }
@@ -120,15 +85,10 @@ pub fn configured(alloc: Global, model: Fetched, order: Fetched) -> Result<Outco
         Ok(problem) => problem,
         Err(refusal) => return refused(alloc, "model", refusal),
     };
-    if !is_plain(problem.model()) {
-        return unsupported(alloc, "model");
-    }
     let order = match open_order(alloc, &problem, order) {
         Ok(order) => order,
         Err(refusal) => return refused(alloc, "order", refusal),
     };
-    if !is_plain_order(&order) {
-        return unsupported(alloc, "order");
-    }
-    preferred_outcome(alloc, &problem, &order)
+    let solver = Alone::<Idle>::new(alloc, &problem, &order)?;
+    preferred_outcome(alloc, &problem, &order, solver)
 }

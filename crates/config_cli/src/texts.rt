@@ -1,7 +1,7 @@
 // The lines of files that are refused.
 ghost use Rattle.std.specs.Prelude.{◌≡◌, IfOk, IsTrue};
 ghost use Rattle.file_values.specs.Places.{has_known_keys};
-ghost use Rattle.config_cli.specs.Texts.{refused_text, unsupported_text};
+ghost use Rattle.config_cli.specs.Texts.{refused_text};
 
 use model_reader::{Fault, write_place};
 use std::alloc::{AllocError, Global};
@@ -23,16 +23,5 @@ pub fn refused_text(alloc: Global, file: &str, fault: &Fault) -> Result<Vec<u8>,
     text.push(b' ')?;
     text.extend_from_slice(&place)?;
     text.push(b'\n')?;
-    Ok(text)
-}
-
-/// `refused FILE F90 /`, for a file without fault that can't be configured yet.
-#[tactic(auto, unfolding(crate::specs::Texts::unsupported_text))]
-pub fn unsupported_text(alloc: Global, file: &str) -> Result<Vec<u8>, AllocError>
-    ensures { IfOk result (λ text. text.items ≡ unsupported_text file.now) }
-{
-    let mut text = Vec::from_slice(alloc, b"refused ")?;
-    text.extend_from_slice(file.as_bytes())?;
-    text.extend_from_slice(b" F90 /\n")?;
     Ok(text)
 }
