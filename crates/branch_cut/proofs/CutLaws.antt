@@ -28,7 +28,7 @@ use Rattle.branch_cut.specs.Cuts.{DemandedIsDead, TrailDomainsAreWhole}
 use Rattle.branch_cut.proofs.CutOrder.{bounded_after}
 
 -- what satisfies the model has its shape
-satisfied_shaped : (m : Model) (c : List Instance) → IsTrue (satisfies m c) → IsTrue (is_shaped m c)
+pub satisfied_shaped : (m : Model) (c : List Instance) → IsTrue (satisfies m c) → IsTrue (is_shaped m c)
 unfolding satisfies
 satisfied_shaped m c is =
     (and_parts (is_shaped m c) (is_numbered c) (and_parts (is_shaped m c && is_numbered c) (follows_rules m c) is).0).0

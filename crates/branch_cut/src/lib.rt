@@ -4,6 +4,7 @@
 
 mod branch;
 mod choosing;
+mod cut;
 pub mod cut_laws;
 pub mod laws;
 mod openings;
@@ -11,4 +12,5 @@ mod stuck;
 
 pub use branch::Branch;
 pub use choosing::choose;
+pub use cut::cut_dead;
 pub use stuck::is_stuck;

@@ -18,10 +18,10 @@ use Rattle.seq_search.specs.steps.Nodes.{IsFound, IsSplit, branches_after, best_
 use Rattle.seq_search.proofs.Accounts.{ends, splits, lowers, beats_not_itself}
 
 -- of a choice one of the two literals holds
-either_holds : (j : Task) (piece : Piece) (nogoods : List Nogood) (Below : List Instance → Type 0) (q : State) (b : Branch)
-    → IsSplit j piece nogoods Below q b → (c : List Instance) → IsSought j piece c → Below c
+either_holds : (j : Task) (piece : Piece) (nogoods : List Nogood) (best : Option (List Instance)) (Below : List Instance → Type 0) (q : State) (b : Branch)
+    → IsSplit j piece nogoods best Below q b → (c : List Instance) → IsSought j piece c → Below c
     → CoversOpen j.model (record { state = q; literal = Some b.second }) c ⊎ CoversOpen j.model (record { state = q; literal = Some b.first }) c
-either_holds j piece nogoods Below q b split c sought below =
+either_holds j piece nogoods best Below q b split c sought below =
     let at = split.keeps c sought below in
     by (has_literal j.model c b.first) refl at
   where
@@ -47,7 +47,7 @@ node_accounts j piece nogoods best rest taken q (Better d) better all =
     (lowers j piece (rest ++ taken ∷ []) best d better.better all))
 node_accounts j piece nogoods best rest taken q (Split b) split all =
     splits j piece rest taken (record { state = q; literal = Some b.second }) (record { state = q; literal = Some b.first }) best
-    (either_holds j piece nogoods (CoversOpen j.model taken) q b split) all
+    (either_holds j piece nogoods best (CoversOpen j.model taken) q b split) all
 
 -- ---- in memory
 

@@ -223,8 +223,8 @@ module _ (j : Task) (piece : Piece) (nogoods : List Nogood) (best : Option (List
     put_after (Learnt n) f settled = tt
     put_after (Better d) f settled = tt
     put_after (Split b) f settled = (
-      record { literal = b.second; to_narrow = refl; settled = settled; no_nogood = f.no_nogood },
-      (record { literal = b.first; to_narrow = refl; settled = settled; no_nogood = f.no_nogood }, tt),
+      record { literal = b.second; to_narrow = refl; settled = settled; no_nogood = f.no_nogood; no_cut = f.no_cut },
+      (record { literal = b.first; to_narrow = refl; settled = settled; no_nogood = f.no_nogood; no_cut = f.no_cut }, tt),
     )
 
     kept_or_found : (nogoods_then learnt_then : List Nogood) (found : Found) → IsFound j piece nogoods best Taken t2.state found

@@ -49,6 +49,12 @@ pub stuck_is_barren : (j : Task) (piece : Piece) (s : State) → ((c : List Inst
     → (best : Option (List Instance)) → IsBarren j piece best (Covers j.model s)
 stuck_is_barren j piece s none best c sought covers = absurd (true≢false (sym sought.wanted.candidate.satisfied ∙ none c covers))
 
+-- one that is dead beside the best so far is barren
+pub dead_is_barren : (j : Task) (piece : Piece) (best : Option (List Instance)) (s : State)
+    → ((c : List Instance) → IsTrue (satisfies j.model c) → Covers j.model s c → IsFalse (beats_best j best c))
+    → IsBarren j piece best (Covers j.model s)
+dead_is_barren j piece best s dead c sought covers = dead c sought.wanted.candidate.satisfied covers
+
 -- ---- whole states
 
 -- what the test of a whole state finds is found there
@@ -80,6 +86,7 @@ found_below j piece nogoods best Below Above q keeps (Split b) f = record {
   fitting = f.fitting;
   unknown = f.unknown;
   no_nogood = f.no_nogood;
+  no_cut = f.no_cut;
 }
 
 -- what a branch covers that was entered and filtered, the state covers

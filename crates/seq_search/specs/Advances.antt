@@ -1,5 +1,5 @@
 -- What a search does when it goes on.
-use Rattle.std.specs.Prelude.{◌≡◌, ◌≢◌, ◌↔◌, ◌⊎◌, ℕ, suc, ◌<◌, ◌≤◌, IsTrue, Option, Some, List, [], ◌∷◌, ◌++◌, map, length}
+use Rattle.std.specs.Prelude.{◌≡◌, ◌≢◌, ◌↔◌, ◌⊎◌, ℕ, suc, ◌<◌, ◌≤◌, IsTrue, Option, Some, IfSome, List, [], ◌∷◌, ◌++◌, map, length}
 use Rattle.std.specs.List.{All}
 use Rattle.config_value.specs.declared.configuration.Instance.{Instance}
 use Rattle.config_value.specs.declared.literal.Literal.{Literal}
@@ -7,6 +7,7 @@ use Rattle.literal_book.specs.declared.nogood.Nogood.{Nogood}
 use Rattle.state_space.specs.State.{State}
 use Rattle.reason_trail.specs.Jobs.{Task, beats_best}
 use Rattle.nogood_store.specs.Stores.{AppliesAt}
+use Rattle.branch_cut.specs.Cuts.{IsCutDemanded}
 use Rattle.seq_search.specs.declared.advance.Advance.{Advance}
 use Rattle.seq_search.specs.declared.advance.Advance.TheVariants.{More, Done}
 use Rattle.seq_search.specs.Quests.{IsSought}
@@ -15,13 +16,14 @@ use Rattle.seq_search.specs.Weights.{AreLess}
 use Rattle.seq_search.specs.Searches.{Search}
 
 -- A branch that takes the place of another: it is still to be narrowed, nothing more follows in its
--- state, and no nogood that was held before applies there.
+-- state, no nogood that was held before applies there, and where there was a best it demands no cut.
 pub record IsPut (Settled : Task → State → Type 0) (s : Search) (b : Open) : Type 0 where
   pub literal : Literal
   pub to_narrow : b.literal ≡ Some literal
   pub settled : Settled s.job b.state
   pub no_nogood : (place : ℕ)
       → ¬ AppliesAt s.job.model s.job.goal.keep b.state s.nogoods place
+  pub no_cut : IfSome s.best (λ d. ¬ IsCutDemanded s.job b.state d)
 
 -- The best is what it was, or a configuration that is sought and beats that.
 abbrev pub IsKeptOrFound : Search → Search → Type 0

@@ -2,15 +2,17 @@
 //! and what the search keeps is changed afterwards; so want of memory leaves it as it was.
 ghost use Rattle.std.specs.Prelude.{◌≡◌, ◌≤◌, ◌<◌, ℕ, IsTrue, IsFalse, IfOk, IfSome, Option, Some, List, length};
 ghost use Rattle.config_value.specs.declared.configuration.Instance.{Instance};
+ghost use Rattle.config_value.specs.Satisfies.{satisfies};
 ghost use Rattle.literal_book.specs.declared.nogood.Nogood.{Nogood};
 ghost use Rattle.literal_book.specs.declared.nogood.Piece.{Piece};
 ghost use Rattle.state_space.specs.Covers.{Covers};
 ghost use Rattle.state_space.specs.Size.{size_of};
 ghost use Rattle.state_space.specs.Whole.{is_whole, whole_configuration};
-ghost use Rattle.reason_trail.specs.Jobs.{IsWanted};
+ghost use Rattle.reason_trail.specs.Jobs.{IsWanted, beats_best as beats_best_of};
 ghost use Rattle.reason_trail.specs.Propagators.{IsFailure};
 ghost use Rattle.reason_trail.specs.Trails.{IsTrail, Extends, cut_to, length_of};
 ghost use Rattle.nogood_store.specs.Stores.{AppliesAt, IsSearched};
+ghost use Rattle.branch_cut.specs.Cuts.{IsCutDemanded};
 ghost use Rattle.seq_search.specs.OpenBranches.{CoversOpen, open_size};
 ghost use Rattle.seq_search.specs.steps.Opens.{open_at, MayBeTaken};
 ghost use Rattle.seq_search.specs.steps.Nodes.{IsEntered, IsFound, IsEnd, IfSplit, IsTested, is_left as is_left_of};
@@ -18,7 +20,7 @@ ghost use Rattle.seq_search.specs.steps.Nodes.{IsEntered, IsFound, IsEnd, IfSpli
 use crate::found::Found;
 use crate::open_branch::OpenBranch;
 use crate::seeking::{beats_best, is_sought};
-use branch_cut::{choose, is_stuck};
+use branch_cut::{choose, cut_dead, is_stuck};
 use config_value::{Configuration, Literal};
 use conflict_learn::{Learned, learn};
 use literal_book::Piece;
@@ -123,8 +125,8 @@ fn taught(alloc: Global, trail: &Trail, job: &Job, why: &Reason) -> Result<Found
     }
 }
 
-/// What is below a settled state: nothing, where a nogood applies, or an instance has to be made and
-/// none can be; one configuration, where the state is whole; and else two ways on.
+/// What is below a settled state: nothing, where a nogood applies, an instance has to be made and
+/// none can be, or none can beat the best so far; one configuration, where the state is whole; and else two ways on.
 fn look(
     trail: &Trail,
     store: &mut Store,
@@ -149,6 +151,9 @@ fn look(
     if is_stuck(job.problem(), trail.state()) {
         return Ok(Found::Ended);
     }
+    if is_cut(trail, job, best) {
+        return Ok(Found::Ended);
+    }
     match choose(job.problem(), trail.state()) {
         Some(branch) => Ok(Found::Split(branch)),
         None => test_whole(trail, job, piece, best),
@@ -167,6 +172,23 @@ fn is_excluded(trail: &Trail, store: &mut Store, job: &Job) -> bool
 {
     match store.find(trail, job.goal().keep.as_slice()) {
         Some(_) => true,
+        None => false,
+    }
+}
+
+/// Whether the best so far cuts: nothing in the state can beat it.
+fn is_cut(trail: &Trail, job: &Job, best: &Option<Configuration>) -> bool
+    requires job { trail.now.job ≡ job.now }
+    requires wanted { IfSome best.now (IsWanted job.now) }
+    ensures dead { IsTrue result → (c : List Instance) → IsTrue (satisfies job.now.model c)
+        → Covers job.now.model trail.now.state c → IsFalse (beats_best_of job.now best.now c) }
+    ensures demanded { IsFalse result
+        → IfSome best.now (λ d. ¬ IsCutDemanded job.now trail.now.state d) }
+{
+    // The state is one of a trail.
+    let _task = trail.job();
+    match best {
+        Some(d) => cut_dead(job, trail.state(), d),
         None => false,
     }
 }

@@ -22,7 +22,7 @@ use std::marker::Model;
 
 /// A search for the best configuration within a piece, by a propagator. It goes down from state to
 /// state along one trail, the first way on first, and comes back to the ways that were left open:
-/// these are lengths of the trail. It cuts nothing yet by the best so far.
+/// these are lengths of the trail. What can't beat the best so far is cut.
 #[derive(Drop)]
 pub struct Searcher<P: Propagate> {
     alloc: Global,

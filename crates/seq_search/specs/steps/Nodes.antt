@@ -1,5 +1,5 @@
 -- What a node finds out about the branch that it takes.
-use Rattle.std.specs.Prelude.{◌≡◌, ℕ, ◌≤◌, ◌++◌, IsTrue, IsFalse, Bool, true, false, Option, None, Some, List, [], ◌∷◌, length}
+use Rattle.std.specs.Prelude.{◌≡◌, ℕ, ◌≤◌, ◌++◌, IsTrue, IsFalse, Bool, true, false, Option, None, Some, IfSome, List, [], ◌∷◌, length}
 use Rattle.std.specs.List.{All}
 use Rattle.prod_model.specs.declared.model.Model.{Model}
 use Rattle.prod_model.specs.declared.model.Order.{Order}
@@ -16,6 +16,7 @@ use Rattle.state_space.specs.Size.{size_of}
 use Rattle.reason_trail.specs.Jobs.{Task, beats_best}
 use Rattle.nogood_store.specs.Stores.{AppliesAt}
 use Rattle.branch_cut.specs.declared.branch.Branch.{Branch}
+use Rattle.branch_cut.specs.Cuts.{IsCutDemanded}
 use Rattle.branch_cut.specs.Branching.{IsChoice, fits_either, entails_neither}
 use Rattle.seq_search.specs.declared.found.Found.{Found}
 use Rattle.seq_search.specs.declared.found.Found.TheVariants.{Ended, Learnt, Better, Split}
@@ -53,15 +54,16 @@ pub record IsBetter (j : Task) (piece : Piece) (best : Option (List Instance))
   pub better : IsTrue (beats_best j best d)
   pub only : (c : List Instance) → IsSought j piece c → Below c → c ≡ d
 
--- The state covers all that is sought below, no nogood applies there, and the two literals part what
--- it covers.
-pub record IsSplit (j : Task) (piece : Piece) (nogoods : List Nogood)
+-- The state covers all that is sought below, no nogood applies there, no cut is demanded, and the two
+-- literals part what it covers.
+pub record IsSplit (j : Task) (piece : Piece) (nogoods : List Nogood) (best : Option (List Instance))
     (Below : List Instance → Type 0) (q : State) (b : Branch) : Type 0 where
   pub keeps : (c : List Instance) → IsSought j piece c → Below c → Covers j.model q c
   pub choice : IsChoice j.model q b
   pub fitting : IsTrue (fits_either j.model q b)
   pub unknown : IsTrue (entails_neither j.model q b)
   pub no_nogood : (place : ℕ) → ¬ AppliesAt j.model j.goal.keep q nogoods place
+  pub no_cut : IfSome best (λ d. ¬ IsCutDemanded j q d)
 
 -- what was found of what is below, in the state that was come to
 abbrev pub IsFound : Task → Piece → List Nogood → Option (List Instance)
@@ -70,7 +72,7 @@ IsFound j piece nogoods best Below q Ended = IsBarren j piece best Below
 IsFound j piece nogoods best Below q (Learnt n) =
     IsBarren j piece best Below × IsSound j.model j.order n
 IsFound j piece nogoods best Below q (Better d) = IsBetter j piece best Below d
-IsFound j piece nogoods best Below q (Split b) = IsSplit j piece nogoods Below q b
+IsFound j piece nogoods best Below q (Split b) = IsSplit j piece nogoods best Below q b
 
 -- the branch ends without a configuration
 abbrev pub IsEnd : Found → Type 0

@@ -1,4 +1,4 @@
--- A nogood that applies leaves nothing; a whole state one configuration; and a choice parts what is there.
+-- A nogood that applies leaves nothing, nor does a cut; a whole state one configuration; and a choice parts what is there.
 use Rattle.std.proofs.Common.{◌≡◌, subst, sym}
 use Rattle.std.specs.Prelude.{IsTrue}
 use Rattle.state_space.specs.State.{IsState}
@@ -7,7 +7,7 @@ use Rattle.state_space.specs.Whole.{is_whole, whole_configuration}
 use Rattle.reason_trail.proofs.Trails.{now_is_state}
 use Rattle.branch_cut.specs.Branching.{IsChoice, fits_either, entails_neither}
 use Rattle.seq_search.specs.steps.Nodes.{IsFound, IsTested}
-use Rattle.seq_search.proofs.Looking.{excluded_is_barren, whole_found, if_ok}
+use Rattle.seq_search.proofs.Looking.{excluded_is_barren, dead_is_barren, whole_found, if_ok}
 use Rattle.seq_search.proofs.node.look.Goals as goal
 
 pub returns-then-is_excluded-clause-found : goal.returns-then-is_excluded-clause-found
@@ -18,6 +18,10 @@ returns-then-is_excluded-clause-found c =
     let state : IsState j.model t.state = subst (λ k. IsState k.model t.state) c.requires.job (now_is_state t right) in
     excluded_is_barren j c.args.piece.now c.args.store.now t.state c.len-right.ensures.right c.requires.model c.requires.order state
     (c.is_excluded.ensures.some c.if-is_excluded.true) c.args.best.now
+
+pub returns-then-is_cut-clause-found : goal.returns-then-is_cut-clause-found
+returns-then-is_cut-clause-found c =
+    dead_is_barren c.args.job.now c.args.piece.now c.args.best.now c.args.trail.now.state (c.is_cut.ensures.dead c.if-is_cut.true)
 
 pub returns-in-Some-clause-found : goal.returns-in-Some-clause-found
 returns-in-Some-clause-found c =
@@ -32,6 +36,7 @@ returns-in-Some-clause-found c =
       fitting = subst (λ s. IsTrue (fits_either j.model s b)) state (subst (λ m. IsTrue (fits_either m c.state-2.result.now b)) model (c.choose.ensures.fits b c.in-Some.is));
       unknown = subst (λ s. IsTrue (entails_neither j.model s b)) state (subst (λ m. IsTrue (entails_neither m c.state-2.result.now b)) model (c.choose.ensures.unknown b c.in-Some.is));
       no_nogood = c.is_excluded.ensures.none c.if-is_excluded.false;
+      no_cut = c.is_cut.ensures.demanded c.if-is_cut.false;
     }
 
 pub returns-in-None-clause-found : goal.returns-in-None-clause-found
