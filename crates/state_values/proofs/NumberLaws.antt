@@ -8,7 +8,7 @@ use Rattle.prod_model.specs.declared.expr.Expr.TheOpen.{Expr-F, Add, Times}
 use Rattle.prod_model.specs.declared.expr.Expr.TheViews.{out-Expr}
 use Rattle.prod_model.specs.declared.expr_bounds.Bounds.{Bounds}
 use Rattle.prod_model.specs.declared.expr_bounds.Bounds.TheVariants as bounds
-use Rattle.prod_model.specs.ExprBounds.{bounds_at, is_number, is_truth}
+use Rattle.prod_model.specs.ExprBounds.{bounds_at, is_number}
 use Rattle.prod_model.specs.Valid.{IsDeclared}
 use Rattle.state_space.specs.State.{State}
 use Rattle.state_values.specs.declared.interval.Interval.{Interval}
