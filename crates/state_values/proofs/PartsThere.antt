@@ -8,6 +8,7 @@ use Rattle.std.proofs.lemmas.Option.{none-some, same_Some}
 use Rattle.base_laws.specs.Places.{IsAt}
 use Rattle.base_laws.proofs.Places.{find_at}
 use Rattle.base_laws.proofs.Tests.{list_any_at, list_any_from}
+use Rattle.instance_set.specs.declared.set.InstanceSet.{InstanceSet}
 use Rattle.prod_model.specs.declared.model.Model.{Model}
 use Rattle.prod_model.specs.declared.model.AttrAt.{AttrAt}
 use Rattle.prod_model.specs.declared.model.PortAt.{PortAt}
@@ -30,7 +31,6 @@ use Rattle.state_space.specs.State.{State, IsState, number_made, kinds_at, domai
 use Rattle.state_space.proofs.DescribedParts.{one_of_all}
 use Rattle.state_values.specs.Sights.{is_surely_under, is_maybe_under}
 use Rattle.state_values.specs.steps.Parts.{Stands, HasAttribute, HasPort, HasParts, HasTruths, AtTarget, IsTruth}
-use Rattle.instance_set.specs.declared.set.InstanceSet.{InstanceSet}
 use Rattle.state_values.specs.steps.Truths.{StandAmong, HavePort}
 use Rattle.state_values.proofs.KindsTold.{there_is}
 use Rattle.state_values.proofs.OwnBounds.{port_declared, few_instances}

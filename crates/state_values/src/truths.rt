@@ -11,7 +11,8 @@ ghost use Rattle.state_values.specs.Seen.{truth};
 ghost use Rattle.state_values.specs.Sights.{is_surely_under, has_word as has_word_of};
 ghost use Rattle.state_values.specs.Told.{told};
 ghost use Rattle.state_values.specs.steps.Parts.{Stands, IsTruth, AreTruths};
-ghost use Rattle.state_values.specs.steps.Truths.{Tells, StandAmong, simple_truth as simple_truth_of};
+ghost use Rattle.state_values.specs.steps.Truths.{Tells, StandAmong};
+ghost use Rattle.state_values.specs.steps.Truths.{simple_truth as simple_truth_of};
 
 use crate::kleene::{Kleene, related};
 use crate::leaves::port_at;
