@@ -1,28 +1,35 @@
 -- What the code of QuickXplain knows from its calls, over plain variables.
 use Rattle.std.proofs.Common.{◌≡◌, ℕ, zero, suc, ◌+◌, ◌-◌, ◌*◌, ◌^◌, ◌/◌, ◌<◌, ◌≤◌, List, refl, ap, subst, sym, ◌∙◌, inl, arith, nat_lt}
-use Rattle.std.specs.Prelude.{Bool, true, false, not, IsFalse, IsTrue, if◌then◌else◌}
-use Rattle.std.proofs.lemmas.Bool.{true≢false}
+use Rattle.std.specs.Prelude.{Bool, true, false, IsFalse, IsTrue, if◌then◌else◌}
 use Rattle.std.proofs.Math.Nat.{pow-succ'}
-use Rattle.quickxplain.specs.Testers.{IsClosedUnderParts}
+use Rattle.quickxplain.specs.Testers.{IsClosedUnderParts, IsSameTest}
 use Rattle.quickxplain.specs.steps.Ranges.{fill, kept_count, KeepsAll, IsLeastWithin}
 use Rattle.quickxplain.proofs.Ranges.{fill-beside, kept_count-fill}
 use Rattle.quickxplain.proofs.Quick.{none_is_least, one_is_least, halves_are_least, questions}
 
-not_swaps : (b d : Bool) → b ≡ not d → d ≡ not b
-not_swaps true true e = absurd (let h = e in cc)
-not_swaps true false e = refl
-not_swaps false true e = refl
-not_swaps false false e = absurd (let h = e in cc)
+-- what is the same test as a third one by way of a second one
+pub same_test_by : (f g h : List Bool → Type 0) → IsSameTest f g → IsSameTest g h → IsSameTest f h
+same_test_by f g h p q keep = (λ a. (q keep).0 ((p keep).0 a), λ c. (p keep).1 ((q keep).1 c))
 
-module _ (f : List Bool → Bool) (from to : ℕ) (x new : List Bool) (clash : Bool)
-    (told : clash ≡ not (f (fill from to false x))) (kept : new ≡ (if clash then fill from to false x else x)) where
+-- the least by one test is the least by the same test
+pub least_by_same : (f g : List Bool → Type 0) → IsSameTest f g → (from to : ℕ) (x z : List Bool)
+    → IsLeastWithin f from to x z → IsLeastWithin g from to x z
+least_by_same f g same from to x z is = record {
+  outside = is.outside;
+  clash = λ holds. is.clash ((same z).1 holds);
+  least = λ y agree inconsistent. is.least y agree (λ holds. inconsistent ((same y).0 holds));
+}
+
+module _ (f : List Bool → Type 0) (from to : ℕ) (x new : List Bool) (clash : Bool)
+    (clashes : IsTrue clash → ¬ f (fill from to false x)) (others : IsFalse clash → f (fill from to false x))
+    (kept : new ≡ (if clash then fill from to false x else x)) where
   -- where the others clash, none of the range is kept
-  pub cleared : clash ≡ true → (new ≡ fill from to false x) × IsFalse (f (fill from to false x))
-  cleared is_clash = (kept ∙ ap (λ b. if b then fill from to false x else x) is_clash, not_swaps clash (f (fill from to false x)) told ∙ ap not is_clash)
+  pub cleared : clash ≡ true → (new ≡ fill from to false x) × (¬ f (fill from to false x))
+  cleared is_clash = (kept ∙ ap (λ b. if b then fill from to false x else x) is_clash, clashes is_clash)
 
   -- else all of it is
-  pub stayed : clash ≡ false → (new ≡ x) × IsTrue (f (fill from to false x))
-  stayed not_clash = (kept ∙ ap (λ b. if b then fill from to false x else x) not_clash, not_swaps clash (f (fill from to false x)) told ∙ ap not not_clash)
+  pub stayed : clash ≡ false → (new ≡ x) × f (fill from to false x)
+  stayed not_clash = (kept ∙ ap (λ b. if b then fill from to false x else x) not_clash, others not_clash)
 
   pub cleared_is_least : clash ≡ true → IsLeastWithin f from to x new
   cleared_is_least is_clash = let both = cleared is_clash in
@@ -31,12 +38,12 @@ module _ (f : List Bool → Bool) (from to : ℕ) (x new : List Bool) (clash : B
   pub cleared_count : clash ≡ true → from ≤ to → KeepsAll from to x → kept_count new + (to - from) ≡ kept_count x + 0
   cleared_count is_clash low all = ap (λ y. kept_count y + (to - from)) (cleared is_clash).0 ∙ kept_count-fill from to x low all ∙ omega arith
 
-  pub single_is_least : clash ≡ false → to ≡ suc from → IsFalse (f x) → IsLeastWithin f from to x new
+  pub single_is_least : clash ≡ false → to ≡ suc from → ¬ f x → IsLeastWithin f from to x new
   single_is_least not_clash one inconsistent = let both = stayed not_clash in
       subst (IsLeastWithin f from to x) (sym both.0) (one_is_least f from to x one inconsistent both.1)
 
 -- the requests of the earlier half are all kept after the later one
-pub keeps_earlier : (f : List Bool → Bool) (from mid to : ℕ) (x later : List Bool) → mid ≤ to → KeepsAll from to x
+pub keeps_earlier : (f : List Bool → Type 0) (from mid to : ℕ) (x later : List Bool) → mid ≤ to → KeepsAll from to x
     → IsLeastWithin f mid to x later → KeepsAll from mid later
 keeps_earlier f from mid to x later h all second k low high =
     sym (second.outside k (inl high)) ∙ all k low (omega (arith, h, high))
@@ -49,12 +56,12 @@ pub keeps_first : (from mid to : ℕ) (x : List Bool) → mid ≤ to → KeepsAl
 keeps_first from mid to x h all k low high = all k low (omega (arith, h, high))
 
 -- where none of the later half is kept, the others of the earlier one are those of the whole
-pub others_known : (f f' : List Bool → Bool) (from mid to : ℕ) (x later : List Bool) (k : ℕ) → from ≤ mid → mid ≤ to → f' ≡ f
-    → IsTrue (f (fill from to false x)) → (k ≡ 0 → later ≡ fill mid to false x) → IsFalse (nat_lt 0 k) → IsTrue (f' (fill from mid false later))
+pub others_known : (f f' : List Bool → Type 0) (from mid to : ℕ) (x later : List Bool) (k : ℕ) → from ≤ mid → mid ≤ to → IsSameTest f' f
+    → f (fill from to false x) → (k ≡ 0 → later ≡ fill mid to false x) → IsFalse (nat_lt 0 k) → f' (fill from mid false later)
 others_known f f' from mid to x later k low high same holds none nothing =
     let no : k ≡ 0 = grind (arith, nothing) in
-    ap (λ h. h (fill from mid false later)) same
-    ∙ ap (λ y. f (fill from mid false y)) (none no) ∙ ap f (fill-beside from mid to false x low high) ∙ holds
+    let rest : fill from mid false later ≡ fill from to false x = ap (fill from mid false) (none no) ∙ fill-beside from mid to false x low high in
+    (same (fill from mid false later)).1 (subst f (sym rest) holds)
 
 -- nothing of the whole is kept where nothing of the halves is
 pub none_of_halves : (from mid to : ℕ) (x later z : List Bool) (k1 k2 : ℕ) → from ≤ mid → mid ≤ to
@@ -62,19 +69,19 @@ pub none_of_halves : (from mid to : ℕ) (x later z : List Bool) (k1 k2 : ℕ) �
 none_of_halves from mid to x later z k1 k2 low high a b none =
     b (omega (arith, none)) ∙ ap (fill from mid false) (a (omega (arith, none))) ∙ fill-beside from mid to false x low high
 
--- the least of the halves, by whichever test, which stayed the same
-pub halves : (f f1 f2 : List Bool → Bool) → IsClosedUnderParts f → f1 ≡ f → f2 ≡ f
+-- the least of the halves, by tests that are the same
+pub halves : (f f1 f2 : List Bool → Type 0) → IsClosedUnderParts f → IsSameTest f1 f → IsSameTest f2 f
     → (from mid to : ℕ) (x x' later z : List Bool) → from ≤ mid → mid ≤ to → KeepsAll from to x → x' ≡ x
     → IsLeastWithin f1 mid to x' later → IsLeastWithin f2 from mid later z → IsLeastWithin f from to x z
 halves f f1 f2 closed e1 e2 from mid to x x' later z low high all same second first =
     halves_are_least f closed from mid to x later z low high (keeps_first from mid to x high all)
-    (subst (λ h. IsLeastWithin h mid to x later) e1 (subst (λ y. IsLeastWithin f1 mid to y later) same second))
-    (subst (λ h. IsLeastWithin h from mid later z) e2 first)
+    (least_by_same f1 f e1 mid to x later (subst (λ y. IsLeastWithin f1 mid to y later) same second))
+    (least_by_same f2 f e2 from mid later z first)
 
 -- something of the range is kept where the others are consistent
-pub some_needed : (f : List Bool → Bool) (from to : ℕ) (x z : List Bool) (k : ℕ) → IsTrue (f (fill from to false x)) → IsFalse (f z)
+pub some_needed : (f : List Bool → Type 0) (from to : ℕ) (x z : List Bool) (k : ℕ) → f (fill from to false x) → ¬ f z
     → (k ≡ 0 → z ≡ fill from to false x) → 1 ≤ k
-some_needed f from to x z zero holds clash none = absurd (true≢false (sym holds ∙ ap f (sym (none refl)) ∙ clash))
+some_needed f from to x z zero holds clash none = absurd (clash (subst f (sym (none refl)) holds))
 some_needed f from to x z (suc k) holds clash none = omega arith
 
 one_or_none : (k : ℕ) → (if nat_lt 0 k then 1 else 0) ≤ 1

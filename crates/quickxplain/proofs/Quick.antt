@@ -1,6 +1,6 @@
 -- The least set of a range, from those of its two halves: the step of QuickXplain.
 use Rattle.std.proofs.Common.{◌≡◌, ℕ, suc, ◌+◌, ◌*◌, ◌<◌, ◌≤◌, List, refl, ap, subst, sym, ◌∙◌, ◌⊎◌, inl, inr, arith, length, slice_get, Some}
-use Rattle.std.specs.Prelude.{Bool, true, false, IsFalse, IsTrue}
+use Rattle.std.specs.Prelude.{Bool, true, false}
 use Rattle.std.proofs.lemmas.Bool.{true≢false}
 use Rattle.std.proofs.Math.Nat.{mul-suc, mul-add, add-mul}
 use Rattle.std.proofs.lemmas.Option.{slice_get_within, slice_get_past}
@@ -35,8 +35,8 @@ agree_back : (from to : ℕ) (x y z : List Bool) → AgreeOutside from to x y �
 agree_back from to x y z p q k h = sym (p k h) ∙ q k h
 
 -- Where none of the range already isn't consistent, that is the least.
-pub none_is_least : (consistent : List Bool → Bool) (from to : ℕ) (x : List Bool)
-    → IsFalse (consistent (fill from to false x)) → IsLeastWithin consistent from to x (fill from to false x)
+pub none_is_least : (consistent : List Bool → Type 0) (from to : ℕ) (x : List Bool)
+    → ¬ consistent (fill from to false x) → IsLeastWithin consistent from to x (fill from to false x)
 none_is_least consistent from to x clash = record {
   outside = fill-outside from to false x;
   clash = clash;
@@ -47,8 +47,8 @@ none_is_least consistent from to x clash = record {
 }
 
 -- A single request is needed where the set without it is consistent.
-pub one_is_least : (consistent : List Bool → Bool) (from to : ℕ) (x : List Bool) → to ≡ suc from
-    → IsFalse (consistent x) → IsTrue (consistent (fill from to false x)) → IsLeastWithin consistent from to x x
+pub one_is_least : (consistent : List Bool → Type 0) (from to : ℕ) (x : List Bool) → to ≡ suc from
+    → ¬ consistent x → consistent (fill from to false x) → IsLeastWithin consistent from to x x
 one_is_least consistent from to x single clash rest = record {
   outside = λ k h. refl;
   clash = clash;
@@ -62,14 +62,10 @@ one_is_least consistent from to x single clash rest = record {
             subst (λ n. slice_get y n ≡ Some false) (omega (arith, here, single, inside.0, inside.1)) s.left_out
             ∙ sym (fill-inside from to false x k inside.0 inside.1 short)
       ]) in
-      true≢false (sym rest ∙ ap consistent (sym same) ∙ inconsistent);
+      inconsistent (subst consistent (sym same) rest);
 }
 
 -- ---- two halves
-
-not_true : (b : Bool) → (b ≡ true → ⊥) → b ≡ false
-not_true true h = absurd (h refl)
-not_true false h = refl
 
 -- a set is part of what it becomes by keeping more
 pub part_of_filled : (from to : ℕ) (y : List Bool) → IsPart y (fill from to true y)
@@ -82,15 +78,14 @@ part_of_filled from to y = record {
 }
 
 -- so it stays inconsistent
-still_clashes : (consistent : List Bool → Bool) → IsClosedUnderParts consistent → (from to : ℕ) (y : List Bool)
-    → IsFalse (consistent y) → IsFalse (consistent (fill from to true y))
-still_clashes consistent closed from to y clash = not_true (consistent (fill from to true y)) (λ holds.
-    true≢false (sym (closed y (fill from to true y) (part_of_filled from to y) holds) ∙ clash))
+still_clashes : (consistent : List Bool → Type 0) → IsClosedUnderParts consistent → (from to : ℕ) (y : List Bool)
+    → ¬ consistent y → ¬ consistent (fill from to true y)
+still_clashes consistent closed from to y clash holds = clash (closed y (fill from to true y) (part_of_filled from to y) holds)
 
 either : (n k : ℕ) → (k < n) ⊎ (n ≤ k)
 either n k = grind arith
 
-module _ (consistent : List Bool → Bool) (closed : IsClosedUnderParts consistent) (from mid to : ℕ) (x later z : List Bool)
+module _ (consistent : List Bool → Type 0) (closed : IsClosedUnderParts consistent) (from mid to : ℕ) (x later z : List Bool)
     (low : from ≤ mid) (high : mid ≤ to) (all : KeepsAll from mid x)
     (second : IsLeastWithin consistent mid to x later) (first : IsLeastWithin consistent from mid later z) where
   to_later : (k : ℕ) → (k < from) ⊎ (to ≤ k) → (k < mid) ⊎ (to ≤ k)
@@ -110,7 +105,7 @@ module _ (consistent : List Bool → Bool) (closed : IsClosedUnderParts consiste
   both_outside k h = second.outside k (to_later k h) ∙ first.outside k (to_first k h)
 
   -- it would be smaller than the least of the earlier half
-  early : (y : List Bool) → AgreeOutside from to x y → IsFalse (consistent y) → (s : IsAntilexSmaller y z) → s.request < mid → ⊥
+  early : (y : List Bool) → AgreeOutside from to x y → ¬ consistent y → (s : IsAntilexSmaller y z) → s.request < mid → ⊥
   early y agree inconsistent s h = first.least y beside inconsistent s
     where
       at : (k : ℕ) → (k < from) ⊎ (mid ≤ k) → from ≤ k → slice_get later k ≡ slice_get y k
@@ -124,7 +119,7 @@ module _ (consistent : List Bool → Bool) (closed : IsClosedUnderParts consiste
       ]
 
   -- with all of the earlier half it would be smaller than the least of the later one
-  late : (y : List Bool) → AgreeOutside from to x y → IsFalse (consistent y) → (s : IsAntilexSmaller y z) → mid ≤ s.request → ⊥
+  late : (y : List Bool) → AgreeOutside from to x y → ¬ consistent y → (s : IsAntilexSmaller y z) → mid ≤ s.request → ⊥
   late y agree inconsistent s h = second.least (fill from mid true y) beside (still_clashes consistent closed from mid y inconsistent) smaller
     where
       beside : AgreeOutside mid to x (fill from mid true y)
@@ -155,7 +150,7 @@ module _ (consistent : List Bool → Bool) (closed : IsClosedUnderParts consiste
 -- ---- the whole
 
 -- The least within all places is the preferred conflict.
-pub least_is_preferred : (consistent : List Bool → Bool) (n : ℕ) (x z : List Bool) → length x ≡ n → length z ≡ n
+pub least_is_preferred : (consistent : List Bool → Type 0) (n : ℕ) (x z : List Bool) → length x ≡ n → length z ≡ n
     → IsLeastWithin consistent 0 n x z → IsPreferredConflictOf consistent n z
 least_is_preferred consistent n x z long same least = record {
   is = record { each_request = same; inconsistent = least.clash };

@@ -2,7 +2,8 @@
 use Rattle.std.proofs.Common.{◌≡◌, ℕ, zero, suc, ◌+◌, ◌<◌, List, [], ◌∷◌, ◌++◌, refl, ap, sym, ◌∙◌, arith, length, slice_get, get_or, drop, replicate, Some, append_assoc}
 use Rattle.std.specs.Prelude.{Bool, true, false}
 use Rattle.std.proofs.lemmas.List.{drop_more}
-use Rattle.quickxplain.specs.Testers.{places_kept}
+use Rattle.quickxplain.specs.Testers.{IsSameTest, places_kept}
+use Rattle.quickxplain.specs.Explains.{ArePlacesOfPreferred}
 use Rattle.quickxplain.specs.steps.Ranges.{kept_count, KeepsAll}
 use Rattle.quickxplain.proofs.Ranges.{kept_count-cons}
 
@@ -36,3 +37,21 @@ pub places_pass : (keep : List Bool) (i : ℕ) (out : List ℕ) (d : Bool) → i
     → out ++ places_kept i (drop i keep) ≡ places_kept 0 keep → out ++ places_kept (i + 1) (drop (i + 1) keep) ≡ places_kept 0 keep
 places_pass keep i out d h here so_far =
     ap (λ r. out ++ r) (sym (ap (places_kept i) (drop_more keep i d h) ∙ ap (λ b. places_kept i (b ∷ drop (i + 1) keep)) here)) ∙ so_far
+
+-- the places of the preferred conflict are the same by the same test
+pub places_by_same : (f g : List Bool → Type 0) → IsSameTest f g → (n : ℕ) (members : List ℕ)
+    → ArePlacesOfPreferred f n members → ArePlacesOfPreferred g n members
+places_by_same f g same n members are = record {
+  keep = are.keep;
+  preferred = record {
+    is = record {
+      each_request = are.preferred.is.each_request;
+      inconsistent = λ holds. are.preferred.is.inconsistent ((same are.keep).1 holds);
+    };
+    none_before = λ y clash. are.preferred.none_before y (record {
+      each_request = clash.each_request;
+      inconsistent = λ holds. clash.inconsistent ((same y).0 holds);
+    });
+  };
+  places = are.places;
+}

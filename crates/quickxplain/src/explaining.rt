@@ -1,6 +1,6 @@
 //! The preferred conflict of a test.
-ghost use Rattle.std.specs.Prelude.{◌≡◌, ◌≤◌, true, length, IfOk, IsTrue, IsFalse};
-ghost use Rattle.quickxplain.specs.Testers.{places_kept};
+ghost use Rattle.std.specs.Prelude.{◌≡◌, ◌≤◌, true, length, IfOk};
+ghost use Rattle.quickxplain.specs.Testers.{IsSameTest, places_kept};
 ghost use Rattle.quickxplain.specs.Explains.{ArePlacesOfPreferred, Explains, AsksAtMost};
 ghost use Rattle.quickxplain.specs.steps.Ranges.{kept_count, KeepsAll, IsLeastWithin};
 ghost use Rattle.quickxplain.specs.steps.Questions.{AsksWithin};
@@ -29,7 +29,7 @@ pub fn explain<T: Tester>(alloc: Global, tester: &mut T, n: u32) -> Result<Expla
 
     ensures explains { IfOk result (Explains (T.consistent tester.old) n) }
     ensures asked { IfOk result (AsksAtMost (T.asked tester.old) (T.asked tester.new) n) }
-    ensures test { T.consistent tester.new ≡ T.consistent tester.old }
+    ensures test { IsSameTest (T.consistent tester.new) (T.consistent tester.old) }
     ensures same_requests { T.requests tester.new ≡ T.requests tester.old }
 {
     let mut keep = vec![in alloc; true; n as usize]?;
@@ -48,13 +48,13 @@ fn conflict_of<T: Tester>(
     requires each_request { length keep.old ≡ T.requests tester.old }
     requires few { length keep.old ≤ 64 }
     requires all { KeepsAll 0 (length keep.old) keep.old }
-    requires clash { IsFalse (T.consistent tester.old keep.old) }
+    requires clash { ¬ T.consistent tester.old keep.old }
 
     ensures preferred { IfOk result
         (λ v. ArePlacesOfPreferred (T.consistent tester.old) (length keep.old) v.items) }
     ensures asked { IfOk result (λ v. AsksWithin (T.asked tester.old) (T.asked tester.new)
         1 (length keep.old) (length v.items)) }
-    ensures test { T.consistent tester.new ≡ T.consistent tester.old }
+    ensures test { IsSameTest (T.consistent tester.new) (T.consistent tester.old) }
     ensures same_requests { T.requests tester.new ≡ T.requests tester.old }
 {
     narrow_all(tester, keep)?;
@@ -66,13 +66,13 @@ fn conflict_of<T: Tester>(
 fn narrow_all<T: Tester>(tester: &mut T, keep: &mut [bool]) -> Result<(), AllocError>
     requires each_request { length keep.old ≡ T.requests tester.old }
     requires all { KeepsAll 0 (length keep.old) keep.old }
-    requires clash { IsFalse (T.consistent tester.old keep.old) }
+    requires clash { ¬ T.consistent tester.old keep.old }
 
     ensures least { IfOk result (λ u. IsLeastWithin (T.consistent tester.old) 0 (length keep.old)
         keep.old keep.new) }
     ensures asked { IfOk result (λ u. AsksWithin (T.asked tester.old) (T.asked tester.new)
         1 (length keep.old) (kept_count keep.new)) }
-    ensures test { T.consistent tester.new ≡ T.consistent tester.old }
+    ensures test { IsSameTest (T.consistent tester.new) (T.consistent tester.old) }
     ensures same_requests { T.requests tester.new ≡ T.requests tester.old }
 {
     let n = keep.len();

@@ -4,7 +4,8 @@
 //! There it has a background and a list of candidates. Here both are one list of truths: the
 //! candidates are a range of places, and the background is what is kept at all others. So a half is
 //! added to the background by leaving it as it is, and the answer stands in the list itself.
-ghost use Rattle.std.specs.Prelude.{◌≡◌, ◌+◌, ◌-◌, ◌<◌, ◌≤◌, true, false, not, length, IfOk, IsTrue, IsFalse, if◌then◌else◌};
+ghost use Rattle.std.specs.Prelude.{◌≡◌, ◌+◌, ◌-◌, ◌<◌, ◌≤◌, true, false, length, IfOk, IsTrue, IsFalse, if◌then◌else◌};
+ghost use Rattle.quickxplain.specs.Testers.{IsSameTest};
 ghost use Rattle.quickxplain.specs.steps.Ranges.{fill, without, kept_count, KeepsAll, IsLeastWithin};
 ghost use Rattle.quickxplain.specs.steps.Questions.{AsksWithin};
 
@@ -36,11 +37,14 @@ fn clashes_without<T: Tester>(
     requires high { to ≤ length keep.old }
     requires all { KeepsAll from to keep.old }
 
-    ensures told { IfOk result (λ b. b ≡ not (T.consistent tester.old (without from to keep.old))) }
+    ensures clash { IfOk result
+        (λ b. IsTrue b → ¬ T.consistent tester.old (without from to keep.old)) }
+    ensures others { IfOk result
+        (λ b. IsFalse b → T.consistent tester.old (without from to keep.old)) }
     ensures kept { IfOk result
         (λ b. keep.new ≡ (if b then without from to keep.old else keep.old)) }
     ensures counted { T.asked tester.new ≤ T.asked tester.old + 1 }
-    ensures test { T.consistent tester.new ≡ T.consistent tester.old }
+    ensures test { IsSameTest (T.consistent tester.new) (T.consistent tester.old) }
     ensures same_requests { T.requests tester.new ≡ T.requests tester.old }
 {
     fill(keep, from, to, false);
@@ -64,13 +68,16 @@ fn others_clash<T: Tester>(
     requires low { from ≤ to }
     requires high { to ≤ length keep.old }
     requires all { KeepsAll from to keep.old }
-    requires known { IsFalse added → IsTrue (T.consistent tester.old (without from to keep.old)) }
+    requires known { IsFalse added → T.consistent tester.old (without from to keep.old) }
 
-    ensures told { IfOk result (λ b. b ≡ not (T.consistent tester.old (without from to keep.old))) }
+    ensures clash { IfOk result
+        (λ b. IsTrue b → ¬ T.consistent tester.old (without from to keep.old)) }
+    ensures others { IfOk result
+        (λ b. IsFalse b → T.consistent tester.old (without from to keep.old)) }
     ensures kept { IfOk result
         (λ b. keep.new ≡ (if b then without from to keep.old else keep.old)) }
     ensures counted { T.asked tester.new ≤ T.asked tester.old + (if added then 1 else 0) }
-    ensures test { T.consistent tester.new ≡ T.consistent tester.old }
+    ensures test { IsSameTest (T.consistent tester.new) (T.consistent tester.old) }
     ensures same_requests { T.requests tester.new ≡ T.requests tester.old }
 {
     if !added {
@@ -96,8 +103,8 @@ pub(crate) fn narrow<T: Tester>(
     requires some { from < to }
     requires high { to ≤ length keep.old }
     requires all { KeepsAll from to keep.old }
-    requires clash { IsFalse (T.consistent tester.old keep.old) }
-    requires others { IsFalse added → IsTrue (T.consistent tester.old (without from to keep.old)) }
+    requires clash { ¬ T.consistent tester.old keep.old }
+    requires others { IsFalse added → T.consistent tester.old (without from to keep.old) }
 
     ensures least { IfOk result
         (λ k. IsLeastWithin (T.consistent tester.old) from to keep.old keep.new) }
@@ -106,7 +113,7 @@ pub(crate) fn narrow<T: Tester>(
 
     ensures asked { IfOk result (λ k. AsksWithin (T.asked tester.old) (T.asked tester.new)
         (if added then 1 else 0) (to - from) k) }
-    ensures test { T.consistent tester.new ≡ T.consistent tester.old }
+    ensures test { IsSameTest (T.consistent tester.new) (T.consistent tester.old) }
     ensures same_requests { T.requests tester.new ≡ T.requests tester.old }
 {
     if others_clash(tester, keep, from, to, added)? {

@@ -1,6 +1,7 @@
 //! A test of sets of requests, which counts how often it is asked.
-ghost use Rattle.std.specs.Prelude.{◌≡◌, ◌+◌, ◌-◌, ◌^◌, min, ℕ, Bool, List, length, IfOk};
-ghost use Rattle.quickxplain.specs.Testers.{IsClosedUnderParts};
+ghost use Rattle.std.specs.Prelude.{◌≡◌, ◌↔◌, ◌+◌, ◌-◌, ◌^◌, min};
+ghost use Rattle.std.specs.Prelude.{ℕ, Bool, List, length, IfOk, IsTrue};
+ghost use Rattle.quickxplain.specs.Testers.{IsClosedUnderParts, IsSameTest};
 
 use std::alloc::AllocError;
 
@@ -10,8 +11,8 @@ pub trait Tester {
     /// How many requests there are.
     ghost requests: { Self → ℕ };
 
-    /// Whether the requests of a set, which has a truth for each request, are consistent.
-    ghost consistent: { Self → List Bool → Bool };
+    /// The requests of a set, which has a truth for each request, are consistent.
+    ghost consistent: { Self → List Bool → Type 0 };
 
     /// How often it was asked.
     ghost asked: { Self → ℕ };
@@ -20,8 +21,8 @@ pub trait Tester {
     /// is counted, whatever it answers; the count stays at its greatest value.
     fn consistent(&mut self, keep: &[bool]) -> Result<bool, AllocError>
         requires { length keep.now ≡ requests self.old }
-        ensures answer { IfOk result (λ b. b ≡ consistent self.old keep.now) }
-        ensures test { consistent self.new ≡ consistent self.old }
+        ensures answer { IfOk result (λ b. IsTrue b ↔ consistent self.old keep.now) }
+        ensures test { IsSameTest (consistent self.new) (consistent self.old) }
         ensures same_requests { requests self.new ≡ requests self.old }
         ensures counted { asked self.new ≡ min (asked self.old + 1) (2 ^ 64 - 1) };
 

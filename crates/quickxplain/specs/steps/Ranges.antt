@@ -1,5 +1,5 @@
 -- Sets of requests that differ only in a range of places, and the least conflict among them.
-use Rattle.std.specs.Prelude.{◌≡◌, ℕ, zero, suc, ◌<◌, ◌≤◌, ◌⊎◌, Bool, true, false, IsFalse, List, [], ◌∷◌, slice_get, Some}
+use Rattle.std.specs.Prelude.{◌≡◌, ℕ, zero, suc, ◌<◌, ◌≤◌, ◌⊎◌, Bool, true, false, List, [], ◌∷◌, slice_get, Some}
 use Rattle.std.specs.List.{count_by}
 use Rattle.config_value.specs.Conflict.{IsAntilexSmaller}
 
@@ -28,9 +28,9 @@ abbrev pub KeepsAll : ℕ → ℕ → List Bool → Type 0
 KeepsAll from to x = (k : ℕ) → from ≤ k → k < to → slice_get x k ≡ Some true
 
 -- z is x but for these places, isn't consistent, and no such set is antilex-smaller
-pub record IsLeastWithin (consistent : List Bool → Bool) (from to : ℕ) (x z : List Bool)
+pub record IsLeastWithin (consistent : List Bool → Type 0) (from to : ℕ) (x z : List Bool)
     : Type 0 where
   pub outside : AgreeOutside from to x z
-  pub clash : IsFalse (consistent z)
-  pub least : (y : List Bool) → AgreeOutside from to x y → IsFalse (consistent y)
+  pub clash : ¬ consistent z
+  pub least : (y : List Bool) → AgreeOutside from to x y → ¬ consistent y
       → ¬ IsAntilexSmaller y z
