@@ -2,7 +2,7 @@
 use Rattle.std.proofs.Common.{◌≡◌, ℕ, zero, suc, ◌+◌, ◌<◌, List, [], ◌∷◌, ◌++◌, refl, ap, sym, ◌∙◌, arith, length, slice_get, get_or, drop, replicate, Some, append_assoc}
 use Rattle.std.specs.Prelude.{Bool, true, false}
 use Rattle.std.proofs.lemmas.List.{drop_more}
-use Rattle.quickxplain.specs.Testers.{IsSameTest, IsPreferredConflictOf, places_kept}
+use Rattle.quickxplain.specs.Testers.{IsSameTest, places_kept}
 use Rattle.quickxplain.specs.Explains.{ArePlacesOfPreferred}
 use Rattle.quickxplain.specs.steps.Ranges.{kept_count, KeepsAll}
 use Rattle.quickxplain.proofs.Ranges.{kept_count-cons}

@@ -1,5 +1,5 @@
 -- A test of sets of requests, and its preferred conflict (Junker 2004). A set of requests is a
--- truth for each of them.
+-- truth for each of them. What makes a set consistent is a proposition, which nothing need compute.
 use Rattle.std.specs.Prelude.{◌≡◌, ◌↔◌, ℕ, ◌+◌, Bool, true, false, List, [], ◌∷◌, length, slice_get, Some}
 use Rattle.config_value.specs.Conflict.{IsAntilexSmaller}
 use Rattle.prod_model.specs.First.{IsFirst}

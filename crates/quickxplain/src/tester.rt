@@ -1,5 +1,6 @@
 //! A test of sets of requests, which counts how often it is asked.
-ghost use Rattle.std.specs.Prelude.{◌≡◌, ◌↔◌, ◌+◌, ◌-◌, ◌^◌, min, ℕ, Bool, List, length, IfOk, IsTrue};
+ghost use Rattle.std.specs.Prelude.{◌≡◌, ◌↔◌, ◌+◌, ◌-◌, ◌^◌, min};
+ghost use Rattle.std.specs.Prelude.{ℕ, Bool, List, length, IfOk, IsTrue};
 ghost use Rattle.quickxplain.specs.Testers.{IsClosedUnderParts, IsSameTest};
 
 use std::alloc::AllocError;

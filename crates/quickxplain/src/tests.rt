@@ -1,5 +1,5 @@
 //! Tests that are lists of conflicts, with their preferred conflicts told by hand.
-ghost use Rattle.std.specs.Prelude.{◌≡◌, length};
+ghost use Rattle.std.specs.Prelude.{◌≡◌, length, IsTrue};
 ghost use Rattle.std.specs.List.{list_any, list_all};
 ghost use Rattle.quickxplain.specs.steps.Listed.{keeps as keeps_of, keeps_none_of};
 
@@ -20,7 +20,7 @@ impl<'a> Tester for Listed<'a> {
 
     ghost requests = { λ t. t.requests };
 
-    ghost consistent = { λ t. keeps_none_of (λ c. c.now) t.conflicts.now };
+    ghost consistent = { λ t keep. IsTrue (keeps_none_of (λ c. c.now) t.conflicts.now keep) };
 
     ghost asked = { λ t. t.asked };
 

@@ -62,7 +62,7 @@ module _ (m : Model) (is : IsDeclared m) (s : State) (state : IsState m s) (a u 
 -- ---- ports as they are declared
 
 -- a port is one that is declared, with its inverse beside it
-declared_there : (m : Model) (t p : ℕ) (d : PortAt) → port_of m t p ≡ Some d
+pub declared_there : (m : Model) (t p : ℕ) (d : PortAt) → port_of m t p ≡ Some d
     → (e : PortAt) × (declared_port_of m t p ≡ Some e) × (d.target ≡ e.target)
 declared_there m t p d found =
     by (declared_port_of m t p) refl (sym (port_declared m t p) ∙ found)

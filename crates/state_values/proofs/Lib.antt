@@ -32,4 +32,6 @@ pub mod LinkableLaws
 pub mod NumberLaws
 pub mod OwnBounds
 pub mod PartsThere
+pub mod SetTruths
+pub mod SimpleTruths
 pub mod TallySeen

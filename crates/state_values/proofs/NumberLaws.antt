@@ -8,7 +8,7 @@ use Rattle.prod_model.specs.declared.expr.Expr.TheOpen.{Expr-F, Add, Times}
 use Rattle.prod_model.specs.declared.expr.Expr.TheViews.{out-Expr}
 use Rattle.prod_model.specs.declared.expr_bounds.Bounds.{Bounds}
 use Rattle.prod_model.specs.declared.expr_bounds.Bounds.TheVariants as bounds
-use Rattle.prod_model.specs.ExprBounds.{bounds_at, is_number, is_truth}
+use Rattle.prod_model.specs.ExprBounds.{bounds_at, is_number}
 use Rattle.prod_model.specs.Valid.{IsDeclared}
 use Rattle.state_space.specs.State.{State}
 use Rattle.state_values.specs.declared.interval.Interval.{Interval}
@@ -20,19 +20,13 @@ use Rattle.state_values.specs.steps.Forms.{form_own, form_seen, seen_sum}
 use Rattle.state_values.specs.steps.Parts.{Stands, HasParts, IsNumber, IsTruth}
 use Rattle.state_values.proofs.FormSeen.{number_seen, sum_seen}
 use Rattle.state_values.proofs.OwnBounds.{own_form}
-use Rattle.state_values.proofs.PartsThere.{parts_there}
+use Rattle.state_values.proofs.PartsThere.{parts_there, truth_told}
 
 -- a number has two bounds
 number_told : (o : Option Bounds) → IsTrue (is_number o) → (r : Interval) × (o ≡ Some (bounds.Number r.low r.high))
 number_told (Some (bounds.Number a b)) is = (record { low = a; high = b }, refl)
 number_told (Some bounds.Truth) is = absurd (false≢true is)
 number_told None is = absurd (false≢true is)
-
--- and a truth is one
-truth_told : (o : Option Bounds) → IsTrue (is_truth o) → o ≡ Some bounds.Truth
-truth_told (Some bounds.Truth) is = refl
-truth_told (Some (bounds.Number a b)) is = absurd (false≢true is)
-truth_told None is = absurd (false≢true is)
 
 -- the multiples of both ends
 pub times_seen : (k : ℤ) (r : Range) (seen : Interval) → seen.low ≡ r.low.number → seen.high ≡ r.high.number → multiple_ends k seen ≡ ends_of (range_multiple k r)

@@ -196,6 +196,15 @@ module _ (m : Model) (t : ℕ) (a b : ℤ) where
   pub number_form : (e : Expr) → bounds_at m e t ≡ Some (bounds.Number a b) → IsNumberForm (out-Expr e)
   number_form e told = number_roll (out-Expr e) (ap (λ e. bounds_at m e t) (roll-out-Expr e) ∙ told)
 
+-- few instances are allowed
+pub few_instances : (m : Model) → IsDeclared m → m.instances ≤ 256
+unfolding has_numbers_in_limits
+few_instances m is =
+    let first : IsTrue (is_between 1 most_instances m.instances) =
+    (and_parts (is_between 1 most_instances m.instances) (list_all (λ b. is_pair b.low b.high) m.bounds)
+    (and_parts (is_between 1 most_instances m.instances && list_all (λ b. is_pair b.low b.high) m.bounds) (list_all has_numbers_of m.types) is.formed.numbers_in_limits).0).0 in
+    leb-true m.instances most_instances (and_parts (nat_le 1 m.instances) (nat_le m.instances most_instances) first).1
+
 module _ (m : Model) (is : IsDeclared m) (t : ℕ) (a b : ℤ) where
   -- the pair of a port is within the limit
   few_links : (p : ℕ) (q : PortAt) → port_of m t p ≡ Some q → (q.low ≤ 256) × (q.high ≤ 256)
@@ -205,14 +214,6 @@ module _ (m : Model) (is : IsDeclared m) (t : ℕ) (a b : ℤ) where
       let low : q.low ≤ q.high = leb-true _ _ pair.0 in
       let high : q.high ≤ most_links = leb-true _ _ pair.1 in
       (omega (arith, low, high), omega (arith, high))
-
-  few_instances : m.instances ≤ 256
-  unfolding has_numbers_in_limits
-  few_instances =
-      let first : IsTrue (is_between 1 most_instances m.instances) =
-      (and_parts (is_between 1 most_instances m.instances) (list_all (λ b. is_pair b.low b.high) m.bounds)
-      (and_parts (is_between 1 most_instances m.instances && list_all (λ b. is_pair b.low b.high) m.bounds) (list_all has_numbers_of m.types) is.formed.numbers_in_limits).0).0 in
-      leb-true m.instances most_instances (and_parts (nat_le 1 m.instances) (nat_le m.instances most_instances) first).1
 
   -- what is told of a declared port holds of the port
   port_are : (p : ℕ) (f : PortAt → Option Bounds) (g : PortAt → Ends)
@@ -246,7 +247,7 @@ module _ (m : Model) (is : IsDeclared m) (t : ℕ) (a b : ℤ) where
       (λ q found is. values_are a b m q.low q.high q.target v is) (sym (bounds_at_Sum m t p v) ∙ told)
   own_roll (Total u v) told = values_are a b m 0 m.instances u v (sym (bounds_at_Total m t u v) ∙ told)
   own_roll (Number u) told =
-      counts_are a b 0 m.instances (omega arith) few_instances (if_some (is_type m u) (Some (bounds.Number (pos 0) (pos m.instances))) (bounds.Number a b) (sym (bounds_at_Number m t u) ∙ told))
+      counts_are a b 0 m.instances (omega arith) (few_instances m is) (if_some (is_type m u) (Some (bounds.Number (pos 0) (pos m.instances))) (bounds.Number a b) (sym (bounds_at_Number m t u) ∙ told))
   own_roll (Add es) told =
       let own = map (λ e. bounds_at m e t) es in
       let all = if_some (has_arguments es) (sum_of_all own) (bounds.Number a b) (sym (bounds_at_Add m t es) ∙ told) in

@@ -1,5 +1,5 @@
 -- Where an expression has bounds, its parts have them too, and the instances have what it asks for.
-use Rattle.std.proofs.Common.{◌≡◌, ℕ, zero, suc, ◌<◌, ◌∙◌, ap, sym, subst, Bool, true, false, ◌==◌, List, [], ◌∷◌, map, Option, Some, None, refl, length, leb-true}
+use Rattle.std.proofs.Common.{◌≡◌, ℕ, zero, suc, ◌<◌, ◌∙◌, ap, sym, subst, Bool, true, false, ◌==◌, List, [], ◌∷◌, map, Option, Some, None, refl, length, leb-true, ◌≤◌, arith}
 use Rattle.std.specs.Prelude.{ℤ, pos, IsTrue, IsSome, nat_le, slice_get, if◌then◌else◌}
 use Rattle.std.specs.Option.{option_map_or, option_map, option_and_then, is_some}
 use Rattle.std.specs.List.{list_all, list_any}
@@ -8,6 +8,7 @@ use Rattle.std.proofs.lemmas.Option.{none-some, same_Some}
 use Rattle.base_laws.specs.Places.{IsAt}
 use Rattle.base_laws.proofs.Places.{find_at}
 use Rattle.base_laws.proofs.Tests.{list_any_at, list_any_from}
+use Rattle.instance_set.specs.declared.set.InstanceSet.{InstanceSet}
 use Rattle.prod_model.specs.declared.model.Model.{Model}
 use Rattle.prod_model.specs.declared.model.AttrAt.{AttrAt}
 use Rattle.prod_model.specs.declared.model.PortAt.{PortAt}
@@ -29,9 +30,10 @@ use Rattle.state_space.specs.Made.{domain_of, port_of_made}
 use Rattle.state_space.specs.State.{State, IsState, number_made, kinds_at, domain_at, port_at}
 use Rattle.state_space.proofs.DescribedParts.{one_of_all}
 use Rattle.state_values.specs.Sights.{is_surely_under, is_maybe_under}
-use Rattle.state_values.specs.steps.Parts.{Stands, HasAttribute, HasPort, HasParts, IsTruth}
+use Rattle.state_values.specs.steps.Parts.{Stands, HasAttribute, HasPort, HasParts, HasTruths, AtTarget, IsTruth}
+use Rattle.state_values.specs.steps.Truths.{StandAmong, HavePort}
 use Rattle.state_values.proofs.KindsTold.{there_is}
-use Rattle.state_values.proofs.OwnBounds.{port_declared}
+use Rattle.state_values.proofs.OwnBounds.{port_declared, few_instances}
 
 -- ---- what instances have
 
@@ -201,3 +203,65 @@ module _ (m : Model) (is : IsDeclared m) (s : State) (t i : ℕ) (stands : Stand
   -- An expression with bounds has what it asks for.
   pub parts_there : (e : Expr) (b : Bounds) → bounds_at m e t ≡ Some b → HasParts m s t i (out-Expr e)
   parts_there e b told = parts_roll (out-Expr e) b (ap (λ e. bounds_at m e t) (roll-out-Expr e) ∙ told)
+
+-- ---- truths, whichever the instance
+
+-- a truth is one
+pub truth_told : (o : Option Bounds) → IsTrue (is_truth o) → o ≡ Some bounds.Truth
+truth_told (Some bounds.Truth) is = refl
+truth_told (Some (bounds.Number a b)) is = absurd (false≢true is)
+truth_told None is = absurd (false≢true is)
+
+module _ (m : Model) (t : ℕ) where
+  linked_truth : (p : ℕ) (e : Expr) (b : Bounds) → option_and_then (λ q. truth_of (bounds_at m e q.target ∷ [])) (declared_port_of m t p) ≡ Some b
+      → IsSome (port_of m t p) × AtTarget m t p (λ u. IsTruth m u e)
+  linked_truth p e b told =
+      let port = and_then_some (λ q. truth_of (bounds_at m e q.target ∷ [])) (declared_port_of m t p) b told in
+      let known = port_declared m t p ∙ ap (option_map (with_inverse m)) port.1 in
+      let truth = each_truth (λ x. bounds_at m x port.0.target) (e ∷ []) b port.2 0 e refl in (
+        is_there (port_of m t p) (with_inverse m port.0) known,
+        λ r found. subst (λ (x : PortAt). IsTruth m x.target e) (same_Some (with_inverse m port.0) r (sym known ∙ found)) truth,
+      )
+
+  truths_roll : (form : Expr-F Expr) (b : Bounds) → bounds_at m (roll-Expr form) t ≡ Some b → HasTruths m t form
+  truths_roll (Num n) b told = tt
+  truths_roll (Attr a) b told = tt
+  truths_roll (Count p) b told = tt
+  truths_roll (CountOf p u) b told = tt
+  truths_roll (Sum p a) b told = tt
+  truths_roll (Total u a) b told = tt
+  truths_roll (Number u) b told = tt
+  truths_roll (Add es) b told = tt
+  truths_roll (Sub e f) b told = tt
+  truths_roll (Times k e) b told = tt
+  truths_roll (Cmp r e f) b told = tt
+  truths_roll (Is a w) b told = tt
+  truths_roll (Kind u) b told = tt
+  truths_roll (And es) b told = each_truth (λ e. bounds_at m e t) es b (if_some (has_arguments es) (truth_of (map (λ e. bounds_at m e t) es)) b (sym (bounds_at_And m t es) ∙ told))
+  truths_roll (Or es) b told = each_truth (λ e. bounds_at m e t) es b (if_some (has_arguments es) (truth_of (map (λ e. bounds_at m e t) es)) b (sym (bounds_at_Or m t es) ∙ told))
+  truths_roll (Not e) b told = each_truth (λ x. bounds_at m x t) (e ∷ []) b (sym (bounds_at_Not m t e) ∙ told) 0 e refl
+  truths_roll (If e f) b told =
+      let each = each_truth (λ x. bounds_at m x t) (e ∷ f ∷ []) b (sym (bounds_at_If m t e f) ∙ told) in
+      (each 0 e refl, each 1 f refl)
+  truths_roll (All p e) b told = linked_truth p e b (sym (bounds_at_All m t p e) ∙ told)
+  truths_roll (Any p e) b told = linked_truth p e b (sym (bounds_at_Any m t p e) ∙ told)
+
+  -- A truth has truths as its arguments.
+  pub truths_there : (e : Expr) → IsTruth m t e → HasTruths m t (out-Expr e)
+  truths_there e is = truths_roll (out-Expr e) bounds.Truth (ap (λ e. bounds_at m e t) (roll-out-Expr e) ∙ truth_told (bounds_at m e t) is)
+
+  pub form_there : (e : Expr) (form : Expr-F Expr) → out-Expr e ≡ form → IsTruth m t e → HasTruths m t form
+  form_there e form is truth = subst (HasTruths m t) is (truths_there e truth)
+
+-- each member of a set under a type has the type's ports
+pub have_port : (m : Model) (is : IsDeclared m) (s : State) (state : IsState m s) (t p : ℕ) (among : InstanceSet) → StandAmong m s t among → IsSome (port_of m t p) → HavePort s among p
+have_port m is s state t p among stand known = λ i here.
+    let stands = stand i here in
+    port_there m is s state i stands.made t (maybe_there m is s state i stands.made t stands.under) p known
+
+-- a made instance is one of 256
+pub few_made : (m : Model) → IsDeclared m → (s : State) → IsState m s → (i : ℕ) → i < number_made s → i < 256
+few_made m is s state i made =
+    let few = few_instances m is in
+    let most : number_made s ≤ m.instances = leb-true (number_made s) m.instances (and_parts (nat_le 1 (number_made s)) (nat_le (number_made s) m.instances) state.size).1 in
+    omega (arith, few, most)

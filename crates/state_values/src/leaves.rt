@@ -193,7 +193,8 @@ fn range_of(attribute: &AttrAt) -> Interval
     }
 }
 
-fn port_at(problem: &Problem, kind: u32, port: u32) -> &PortAt
+/// The port of a type that has it.
+pub(crate) fn port_at(problem: &Problem, kind: u32, port: u32) -> &PortAt
     requires { IsSome (port_of problem.now kind port) }
     ensures { port_of problem.now kind port ≡ Some result.now }
 {

@@ -18,9 +18,11 @@ mod ranged;
 mod shares;
 mod sums;
 mod truth_sets;
+mod truths;
 pub mod whole_domain_laws;
 
 pub use interval::Interval;
 pub use key_start::key_start_cmp;
 pub use kleene::Kleene;
 pub use numbers::number_at;
+pub use truths::truth_at;

@@ -1,5 +1,5 @@
 //! Of sets of instances, those where a truth holds, and those where it fails.
-ghost use Rattle.std.specs.Prelude.{◌≡◌, ℕ, ◌<◌, ◌==◌, ◌&&◌, ◌||◌, false};
+ghost use Rattle.std.specs.Prelude.{◌≡◌, ℕ, ◌<◌, ◌==◌, ◌&&◌, ◌||◌, false, if◌then◌else◌};
 ghost use Rattle.instance_set.specs.InstanceSets.{is_member};
 ghost use Rattle.state_values.specs.steps.Truths.{is_told_true, is_told_false};
 
@@ -82,5 +82,19 @@ impl Truths {
             Kleene::Open => {}
         }
         more
+    }
+
+    /// What the truth is at an instance.
+    pub(crate) fn at(self, i: u32) -> Kleene
+        ensures { result ≡ (if is_member self.holding i then Kleene.True
+            else (if is_member self.failing i then Kleene.False else Kleene.Open)) }
+    {
+        if self.holding.contains(i) {
+            Kleene::True
+        } else if self.failing.contains(i) {
+            Kleene::False
+        } else {
+            Kleene::Open
+        }
     }
 }

@@ -1,5 +1,7 @@
-//! Branches of worked states, worked out by hand.
+//! Branches of worked states, and what rules are there, worked out by hand.
 #![tactic(auto)]
 
+#[cfg(test)]
+mod truths;
 #[cfg(test)]
 mod walks;

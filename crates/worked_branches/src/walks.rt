@@ -491,7 +491,7 @@ const NODES: [Step; 11] = [
 ];
 
 /// Narrows the state by a literal that fits.
-fn take(
+pub(crate) fn take(
     problem: &Problem,
     p: &mut Partial,
     literal: &Literal,

@@ -1,6 +1,6 @@
 -- The test of a list of conflicts, each by its places, and that it is closed under parts: what the
 -- tests of this crate are about.
-use Rattle.std.specs.Prelude.{◌≡◌, ℕ, Bool, true, false, not, ◌||◌, List, [], ◌∷◌, slice_get, Option, Some, None, refl}
+use Rattle.std.specs.Prelude.{◌≡◌, ℕ, Bool, true, false, not, ◌||◌, IsTrue, List, [], ◌∷◌, slice_get, Option, Some, None, refl}
 use Rattle.std.specs.Option.{option_map_or}
 use Rattle.std.specs.List.{list_any, list_all}
 use Rattle.std.proofs.Common.{ap, sym, ◌∙◌}
@@ -55,7 +55,7 @@ unnot false e = refl
 
 -- Where the whole keeps all requests of no conflict, neither does a part.
 pub listed_closed : {C : Type 0} (places : C → List ℕ) (conflicts : List C)
-    → IsClosedUnderParts (keeps_none_of places conflicts)
+    → IsClosedUnderParts (λ keep. IsTrue (keeps_none_of places conflicts keep))
 unfolding keeps_none_of
 listed_closed places conflicts part whole within holds =
     let kept = λ (keep : List Bool) (c : _). list_all (keeps keep) (places c) in

@@ -70,3 +70,13 @@ HasParts m s t i (Not e) = IsTruth m t e
 HasParts m s t i (If e f) = IsTruth m t e × IsTruth m t f
 HasParts m s t i (All p e) = HasPort m s t i p × AtTarget m t p (λ u. IsTruth m u e)
 HasParts m s t i (Any p e) = HasPort m s t i p × AtTarget m t p (λ u. IsTruth m u e)
+
+-- what there is for a form that is a truth at type t, whichever the instance
+abbrev pub HasTruths : Model → ℕ → Expr-F Expr → Type 0
+HasTruths m t (And es) = AreTruths m t es
+HasTruths m t (Or es) = AreTruths m t es
+HasTruths m t (Not e) = IsTruth m t e
+HasTruths m t (If e f) = IsTruth m t e × IsTruth m t f
+HasTruths m t (All p e) = IsSome (port_of m t p) × AtTarget m t p (λ u. IsTruth m u e)
+HasTruths m t (Any p e) = IsSome (port_of m t p) × AtTarget m t p (λ u. IsTruth m u e)
+HasTruths m t form = Unit {0}

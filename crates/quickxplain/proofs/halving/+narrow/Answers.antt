@@ -1,5 +1,5 @@
 -- The least of a range is found from its halves.
-use Rattle.std.proofs.Common.{◌+◌, ◌-◌, ◌/◌, ◌≤◌, subst, sym, ◌∙◌, ap, arith, rules, refl, false, if◌then◌else◌}
+use Rattle.std.proofs.Common.{◌≡◌, ◌+◌, ◌-◌, ◌/◌, ◌≤◌, subst, sym, ◌∙◌, ap, arith, rules, refl, false, if◌then◌else◌}
 use Rattle.quickxplain.specs.steps.Ranges.{fill, KeepsAll}
 use Rattle.quickxplain.proofs.Halves.{same_test_by, stayed, cleared_is_least, cleared_count, single_is_least, keeps_earlier, others_known, none_of_halves, halves, some_needed, all_questions}
 use Rattle.quickxplain.proofs.halving.+narrow.Goals as goal
@@ -70,11 +70,12 @@ returns-clause-least g t c =
 pub returns-clause-none : goal.returns-clause-none
 returns-clause-none g t c =
     let told = c.in_ok-others_clash.ensures in
-    let same = stayed (g.T.Tester.consistent c.args.tester.now) c.args.from c.args.to c.args.keep.now c.others_clash.new.keep c.in_ok-others_clash.field-0 told.clash told.others told.kept c.if-branch.false in
-    none_of_halves c.args.from (c.args.from + (c.args.to - c.args.from) / 2) c.args.to c.args.keep.now c.narrow.new.keep c.narrow-2.new.keep
-    c.in_ok-earlier.earlier c.in_ok-later.later (omega arith) (omega (arith, c.requires.some))
-    (λ none. c.in_ok-later.ensures.none none ∙ ap (fill (c.args.from + (c.args.to - c.args.from) / 2) c.args.to false) same.0)
-    c.in_ok-earlier.ensures.none
+    let middle = c.args.from + (c.args.to - c.args.from) / 2 in
+    let same : c.others_clash.new.keep ≡ c.args.keep.now = (stayed (g.T.Tester.consistent c.args.tester.now) c.args.from c.args.to c.args.keep.now c.others_clash.new.keep c.in_ok-others_clash.field-0 told.clash told.others told.kept c.if-branch.false).0 in
+    let later : c.in_ok-later.later ≡ 0 → c.narrow.new.keep ≡ fill middle c.args.to false c.args.keep.now
+    = λ none. subst (λ y. c.narrow.new.keep ≡ fill middle c.args.to false y) same (c.in_ok-later.ensures.none none) in
+    none_of_halves c.args.from middle c.args.to c.args.keep.now c.narrow.new.keep c.narrow-2.new.keep
+    c.in_ok-earlier.earlier c.in_ok-later.later (omega arith) (omega (arith, c.requires.some)) later c.in_ok-earlier.ensures.none
 
 pub returns-clause-asked : goal.returns-clause-asked
 returns-clause-asked g t c l fits =

@@ -1,0 +1,5 @@
+//! Tests of stores of nogoods: what they take, find and watch.
+#![tactic(auto)]
+
+#[cfg(test)]
+mod stores;
