@@ -1,55 +1,24 @@
 -- What is asked of sets of requests, and the conflicts among them.
-use Rattle.std.proofs.Common.{◌≡◌, ◌∙◌, ℕ, zero, suc, ◌+◌, ◌<◌, List, [], ◌∷◌, length, map, Bool, true, false, not, refl, sym, ap, subst, Some, None, arith}
-use Rattle.std.specs.Prelude.{IsTrue, ◌&&◌, ◌||◌, nat_lt, slice_get, replicate}
+use Rattle.std.proofs.Common.{◌≡◌, ℕ, ◌+◌, ◌<◌, List, [], ◌∷◌, length, map, Bool, true, false, Option, Some, None, refl, sym, ◌∙◌, ap, subst, arith}
+use Rattle.std.specs.Prelude.{IsTrue, nat_lt, replicate}
 use Rattle.std.specs.List.{list_all}
 use Rattle.std.proofs.lemmas.Bool.{and_parts, and_from, lt-ltb}
-use lib.Pointwise.{pointwise}
 use Rattle.prod_model.specs.declared.model.Model.{Model}
 use Rattle.prod_model.specs.declared.model.Order.{Order}
 use Rattle.prod_model.specs.declared.model.Request.{Request}
-use Rattle.prod_model.specs.First.{IsFirst}
 use Rattle.config_value.specs.declared.configuration.Instance.{Instance}
-use Rattle.config_value.specs.Satisfies.{IsCandidate, meets, meets_kept, all_kept}
+use Rattle.config_value.specs.Satisfies.{all_kept}
+use Rattle.config_value.specs.Preferred.{IsPreferred}
 use Rattle.config_value.specs.Shaped.{ascends}
-use Rattle.config_value.specs.Conflict.{IsConflict, IsPreferredConflict, IsAntilexSmaller}
-use Rattle.criteria_order.specs.Wanted.{IsWanted, SomeIsWanted}
-use Rattle.quickxplain.specs.Testers.{IsPart, IsClosedUnderParts, IsConflictOf, IsPreferredConflictOf, places_kept}
-use Rattle.quickxplain.specs.Explains.{all_of}
+use Rattle.config_value.specs.Conflict.{IsConflict, IsPreferredConflict}
+use Rattle.quickxplain.specs.Testers.{IsConflictOf, IsPreferredConflictOf, places_kept}
+use Rattle.quickxplain.specs.Explains.{all_of, ArePlacesOfPreferred}
+use Rattle.canonical_form.specs.ConflictText.{conflict_text}
+use Rattle.criteria_order.specs.Wanted.{IsFirstWanted}
+use Rattle.criteria_order.proofs.PreferredLaws.{preferred_is_first_wanted}
+use Rattle.config_cli.specs.declared.status.Status.TheVariants.{Conflict}
+use Rattle.config_cli.specs.Results.{IsPreferredOutcome, conflict}
 use Rattle.config_cli.specs.steps.Clashes.{CanBeMet}
-
--- ---- fewer requests
-
--- a test that each kept one passes, each one passes of which fewer are kept
-fewer : (test : Request → Bool) (part whole : List Bool) (rs : List Request) → length part ≡ length whole
-    → ((k : ℕ) → slice_get part k ≡ Some true → slice_get whole k ≡ Some true)
-    → IsTrue (pointwise (λ kept r. not kept || test r) whole rs) → IsTrue (pointwise (λ kept r. not kept || test r) part rs)
-fewer test [] [] rs long within met = met
-fewer test [] (w ∷ ws) rs long within met = absurd cc
-fewer test (p ∷ ps) [] rs long within met = absurd cc
-fewer test (p ∷ ps) (w ∷ ws) [] long within met = met
-fewer test (p ∷ ps) (w ∷ ws) (r ∷ rs) long within met =
-    let both = and_parts (not w || test r) (pointwise (λ kept r. not kept || test r) ws rs) met in
-    and_from (not p || test r) (pointwise (λ kept r. not kept || test r) ps rs) (by p w (within 0) both.0)
-    (fewer test ps ws rs cc (λ k is. within (suc k) is) both.1)
-  where
-    by : (p w : Bool) → (Some p ≡ Some true → Some w ≡ Some true) → IsTrue (not w || test r) → IsTrue (not p || test r)
-    by false w within met = refl
-    by true true within met = met
-    by true false within met = let e = within refl in absurd cc
-
--- a part of what can be met can be met
-pub parts_are_met : (m : Model) (o : Order) → IsClosedUnderParts (CanBeMet m o)
-unfolding meets_kept
-parts_are_met m o part whole is met =
-    let c = met.0 in
-    (c, record {
-      candidate = record {
-        satisfied = met.1.candidate.satisfied;
-        met = fewer (meets m c) part whole o.requests is.each_request is.within met.1.candidate.met;
-      };
-      extra_met = met.1.extra_met;
-      later = met.1.later;
-    })
 
 -- ---- conflicts
 
@@ -82,8 +51,8 @@ all_true : (rs : List Request) → map (λ r. true) rs ≡ replicate (length rs)
 all_true [] = refl
 all_true (r ∷ rs) = ap (λ xs. true ∷ xs) (all_true rs)
 
-pub all_kept_is : (o : Order) → all_kept o ≡ all_of (length o.requests)
-all_kept_is o = all_true o.requests
+pub all_kept_is : (o : Order) → all_of (length o.requests) ≡ all_kept o
+all_kept_is o = sym (all_true o.requests)
 
 -- ---- places
 
@@ -102,3 +71,57 @@ pub places_within : (from n : ℕ) (keep : List Bool) → from + length keep ≡
 places_within from n [] is = refl
 places_within from n (true ∷ keep) is = and_from (nat_lt from n) _ (lt-ltb from n (omega (arith, is))) (places_within (from + 1) n keep (omega (arith, is)))
 places_within from n (false ∷ keep) is = places_within (from + 1) n keep (omega (arith, is))
+
+-- ---- what is asked of a solver
+
+-- the first that meets all requests is preferred
+pub best_is_preferred : (m n : Model) (o p : Order) (keep : List Bool) (found : Option (List Instance)) (c : List Instance)
+    → m ≡ n → o ≡ p → keep ≡ all_kept p → IsFirstWanted m o keep None [] found → found ≡ Some c → IsPreferred n p (all_kept p) c
+best_is_preferred m n o p keep found c model order all first is =
+    (preferred_is_first_wanted n p (all_kept p) c).1
+    (subst (λ k. IsFirstWanted n p k None [] (Some c)) all
+    (subst (λ x. IsFirstWanted n x keep None [] (Some c)) order
+    (subst (λ y. IsFirstWanted y o keep None [] (Some c)) model
+    (subst (IsFirstWanted m o keep None []) is first))))
+
+-- where there is none, they can't be met
+pub none_clashes : (m n : Model) (o p : Order) (keep : List Bool) (found : Option (List Instance))
+    → n ≡ m → o ≡ p → keep ≡ all_kept p → IsFirstWanted m o keep None [] found → found ≡ None → ¬ CanBeMet n p (all_kept p)
+none_clashes m n o p keep found model order all first is met =
+    let none : IsFirstWanted m o keep None [] None = subst (IsFirstWanted m o keep None []) is first in
+    let own : CanBeMet m o keep =
+    subst (λ k. CanBeMet m o k) (sym all) (subst (λ x. CanBeMet m x (all_kept p)) (sym order) (subst (λ y. CanBeMet y p (all_kept p)) model met)) in
+    none own.0 own.1
+
+-- and so not as all of the questions
+pub all_clash : (m : Model) (o p : Order) (n : ℕ) → o ≡ p → n ≡ length p.requests → ¬ CanBeMet m p (all_kept p) → ¬ CanBeMet m o (all_of n)
+all_clash m o p n order long clash met =
+    clash (subst (CanBeMet m p) (ap all_of long ∙ all_kept_is p) (subst (λ x. CanBeMet m x (all_of n)) order met))
+
+-- The places of the preferred conflict of an order's requests.
+pub record IsClash (m : Model) (o : Order) (members : List ℕ) : Type 0 where
+  pub keep : List Bool
+  pub preferred : IsPreferredConflict m o keep
+  pub places : members ≡ places_kept 0 keep
+
+pub clash_of : (m : Model) (o p : Order) (n : ℕ) (members : List ℕ) → o ≡ p → n ≡ length p.requests
+    → ArePlacesOfPreferred (CanBeMet m o) n members → IsClash m p members
+clash_of m o p n members order long found = record {
+  keep = found.keep;
+  preferred = preferred_conflict m p n found.keep long (subst (λ x. IsPreferredConflictOf (CanBeMet m x) n found.keep) order found.preferred);
+  places = found.places;
+}
+
+-- they ascend, and are those of requests
+pub clash_ascends : (m : Model) (o : Order) (members : List ℕ) → IsClash m o members → IsTrue (ascends members)
+clash_ascends m o members clash = subst (λ ks. IsTrue (ascends ks)) (sym clash.places) (places_ascend 0 clash.keep)
+
+pub clash_within : (m : Model) (o : Order) (members : List ℕ) → IsClash m o members → IsTrue (list_all (λ k. nat_lt k (length o.requests)) members)
+clash_within m o members clash =
+    let long = clash.preferred.is.each_request in
+    subst (λ ks. IsTrue (list_all (λ k. nat_lt k (length o.requests)) ks)) (sym clash.places) (places_within 0 (length o.requests) clash.keep (omega (arith, long)))
+
+-- the outcome that tells them
+pub clash_told : (m : Model) (o : Order) (members : List ℕ) (text : List ℕ) → IsClash m o members → text ≡ conflict_text o members
+    → IsPreferredOutcome m o Conflict text
+clash_told m o members text clash told = conflict clash.keep clash.preferred refl (told ∙ ap (conflict_text o) clash.places)

@@ -24,7 +24,7 @@ impl<S: Solver + Drop> Asking<S> {
 }
 
 impl<S: Solver + Drop> Tester for Asking<S> {
-    ghost use Rattle.config_cli.proofs.ConflictLaws.{parts_are_met};
+    ghost use Rattle.config_cli.specs.steps.Clashes.{parts_are_met};
 
     ghost requests = { λ t. length (S.order t.solver).requests };
 

@@ -31,7 +31,9 @@ pub fn preferred_outcome<S: Solver + Drop>(
         IsPreferredOutcome problem.now order.now a.status a.text.items) }
     ensures status { IfOk result (λ a. IsOfOutcome a.status) }
 {
-    let all = vec![in alloc; true; order.requests.len()]?;
+    // The model is valid.
+    let _model = problem.model();
+    let all = all_requests(alloc, order)?;
     match solver.best(&all, None, &[])? {
         Some(c) => Ok(Outcome {
             status: Status::Preferred,
@@ -39,6 +41,14 @@ pub fn preferred_outcome<S: Solver + Drop>(
         }),
         None => clash_outcome(alloc, order, solver),
     }
+}
+
+/// The set of all requests of an order.
+#[tactic(auto, using(crate::proofs::ConflictLaws::all_kept_is))]
+fn all_requests(alloc: Global, order: &Order) -> Result<Vec<bool>, AllocError>
+    ensures { IfOk result (λ all. all.items ≡ all_kept order.now) }
+{
+    Ok(vec![in alloc; true; order.requests.len()]?)
 }
 
 /// The preferred conflict, where not all requests can be met together.
