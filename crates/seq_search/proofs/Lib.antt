@@ -10,3 +10,4 @@ pub mod Looking
 pub mod Whole
 pub mod Begun
 pub mod Advanced
+pub mod Solving

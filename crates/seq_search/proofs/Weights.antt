@@ -2,7 +2,7 @@
 use Rattle.std.proofs.Common.{◌≡◌, ℕ, zero, suc, ◌*◌, ◌<◌, ◌≤◌, List, [], ◌∷◌, ◌++◌, ◌⊎◌, inl, inr, arith}
 use Rattle.std.proofs.Math.Nat.{pow-succ'}
 use Rattle.std.proofs.lemmas.List.Elements.{All-head, All-tail}
-use Rattle.std.proofs.lemmas.List.Sums.{sum_by-append, sum_by-cons, sum_by_push}
+use Rattle.std.proofs.lemmas.List.Sums.{sum_by-append, sum_by-cons}
 use Rattle.seq_search.specs.Weights.{weight, weight_of, AreLess}
 
 weight-suc : (n : ℕ) → weight (suc n) ≡ 3 * weight n
@@ -39,9 +39,9 @@ less_together (a ∷ b ∷ []) size less =
     rw (sum_by-cons weight a (b ∷ []), sum_by-cons weight b []) (omega (arith, at, other, some))
 less_together (a ∷ b ∷ c ∷ more) size less = absurd (grind (arith, less.few))
 
--- Where at most two of less size take the place of the last branch, the weight falls.
-pub weight_falls : (rest put : List ℕ) (size : ℕ) → AreLess size put
-    → weight_of (rest ++ put) < weight_of (rest ++ size ∷ [])
-weight_falls rest put size less =
+-- where at most two of less size take the place of one, the weight falls
+pub weight_falls : (before put after : List ℕ) (size : ℕ) → AreLess size put
+    → weight_of (before ++ put ++ after) < weight_of (before ++ size ∷ after)
+weight_falls before put after size less =
     let fewer = less_together put size less in
-    rw (sum_by-append weight rest put, sum_by_push weight rest size) (omega (arith, fewer))
+    rw (sum_by-append weight (before ++ put) after, sum_by-append weight before put, sum_by-append weight before (size ∷ after), sum_by-cons weight size after) (omega (arith, fewer))

@@ -2,6 +2,7 @@
 #![tactic(auto)]
 
 mod advance;
+mod alone;
 mod commit;
 mod expand;
 mod found;
@@ -12,4 +13,5 @@ mod seeking;
 mod starting;
 
 pub use advance::Advance;
+pub use alone::{Alone, MakeProps};
 pub use searcher::Searcher;

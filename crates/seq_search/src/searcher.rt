@@ -54,8 +54,8 @@ impl<P: Propagate> Model for Searcher<P> {
 
 impl<P: Propagate + Drop> Searcher<P> {
     /// The search of a job within a piece of at most 32 literals, by a propagator that was made for
-    /// the job. It keeps a copy of the job. The literals of the piece needn't fit: those that do are
-    /// assumed, and all are tested in the end. `AllocError` where memory runs out.
+    /// the job. It keeps a copy of the job. The literals of the piece needn't fit: those that do
+    /// are assumed, and all are tested in the end. `AllocError` where memory runs out.
     pub fn start(
         alloc: Global,
         job: &Job,
@@ -128,8 +128,8 @@ impl<P: Propagate + Drop> Searcher<P> {
         self.learnt.pop_front()
     }
 
-    /// Takes a wanted configuration as the best so far, where it beats the kept one or none is kept.
-    /// It takes no memory.
+    /// Takes a wanted configuration as the best so far, where it beats the kept one or none is
+    /// kept. It takes no memory.
     pub fn lower(&mut self, c: Configuration)
         requires { IsWanted self.old.job c }
         ensures { self.new ≡ lowered self.old c }
@@ -140,9 +140,9 @@ impl<P: Propagate + Drop> Searcher<P> {
         self.best = Some(c);
     }
 
-    /// The best so far: a wanted configuration that was found in the piece or given to `lower`. Where
-    /// no branch is open nothing that is wanted in the piece beats it, and there is none only where
-    /// nothing is. It takes no memory.
+    /// The best so far: a wanted configuration that was found in the piece or given to `lower`.
+    /// Where no branch is open nothing that is wanted in the piece beats it, and there is none only
+    /// where nothing is. It takes no memory.
     pub fn best_so_far(&self) -> Option<&Configuration>
         ensures best { option_copied result ≡ self.now.best }
         ensures search { IsSearch self.now }

@@ -1,4 +1,5 @@
-//! Whether a configuration is sought, and whether it beats the best so far. Nothing here takes memory.
+//! Whether a configuration is sought, and whether it beats the best so far. Nothing here takes
+//! memory.
 ghost use Rattle.std.specs.Prelude.{◌≡◌, ◌↔◌, ◌<◌, ◌||◌, not, IsTrue, IfSome, length};
 ghost use Rattle.base_laws.specs.Places.{IsAt};
 ghost use Rattle.prod_model.specs.declared.model.Request.{Request};
