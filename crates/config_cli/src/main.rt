@@ -8,7 +8,7 @@ mod asking;
 mod check;
 mod check_texts;
 mod commands;
-mod idle;
+mod filtering;
 mod item_names;
 mod names;
 mod outcome;

@@ -8,7 +8,7 @@ ghost use Rattle.config_cli.specs.Results.{IsConfigured};
 ghost use Rattle.config_cli.specs.steps.Calls.{IsOfOutcome};
 ghost use Rattle.config_cli.specs.steps.Fetched.{ForFile, HasKnownPlace, IsFetchOf, Refuses};
 
-use crate::idle::Idle;
+use crate::filtering::Filtering;
 use crate::solved::preferred_outcome;
 use crate::status::Status;
 use crate::texts::refused_text;
@@ -89,6 +89,6 @@ pub fn configured(alloc: Global, model: Fetched, order: Fetched) -> Result<Outco
         Ok(order) => order,
         Err(refusal) => return refused(alloc, "order", refusal),
     };
-    let solver = Alone::<Idle>::new(alloc, &problem, &order)?;
+    let solver = Alone::<Filtering>::new(alloc, &problem, &order)?;
     preferred_outcome(alloc, &problem, &order, solver)
 }

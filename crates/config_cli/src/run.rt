@@ -91,8 +91,8 @@ fn run_words<S: Shelf, K: Sink>(
 ///
 /// - `Preferred` and the text of the preferred configuration, where all requests can be met;
 /// - `Conflict` and the preferred conflict, where they can't;
-/// - `Refused` and `refused FILE CODE PLACE`, where a file has a fault, or has none and can't be
-///   configured yet: the model's comes before the order's.
+/// - `Refused` and `refused FILE CODE PLACE`, where a file has a fault: the first of the model, or
+///   else the first of the order.
 ///
 /// `--workers W` behind it, with W from 1 to 64, changes nothing of this.
 ///
@@ -154,6 +154,8 @@ mod check_rows;
 mod checks;
 #[cfg(test)]
 mod examples;
+#[cfg(test)]
+mod products;
 #[cfg(test)]
 mod refusals;
 #[cfg(test)]

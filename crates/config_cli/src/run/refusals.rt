@@ -98,59 +98,6 @@ const SEVERAL: [Refused; 12] = [
     ),
 ];
 
-/// Files without fault that can't be configured yet, and faults beside them.
-const UNSUPPORTED: [Refused; 8] = [
-    (
-        "{\"format\":\"product-model 1\",\"root\":\"Box\",\"instances\":1,\
-            \"types\":[{\"name\":\"Box\"},{\"name\":\"Lid\"}]}",
-        NO_CRITERIA,
-        "refused model F90 /\n",
-    ),
-    (
-        "{\"format\":\"product-model 1\",\"root\":\"Box\",\"instances\":1,\
-            \"types\":[{\"name\":\"Box\",\"ports\":[{\"name\":\"lid\",\"kind\":\"part\",\
-            \"target\":\"Box\",\"links\":[0,1]}]}]}",
-        NO_CRITERIA,
-        "refused model F90 /\n",
-    ),
-    (
-        "{\"format\":\"product-model 1\",\"root\":\"Box\",\"instances\":1,\
-            \"types\":[{\"name\":\"Box\",\"attributes\":[{\"name\":\"colour\",\"words\":[\"red\"]\
-            }]}]}",
-        NO_CRITERIA,
-        "refused model F90 /\n",
-    ),
-    (
-        "{\"format\":\"product-model 1\",\"root\":\"Box\",\"instances\":1,\
-            \"types\":[{\"name\":\"Box\"}],\"bounds\":[{\"type\":\"Box\",\"count\":[1,1]}]}",
-        NO_CRITERIA,
-        "refused model F90 /\n",
-    ),
-    (
-        "{\"format\":\"product-model 1\",\"root\":\"Box\",\"instances\":1,\
-            \"types\":[{\"name\":\"Box\"}],\"rules\":[{\"name\":\"r\",\"type\":\"Box\",\
-            \"holds\":[\"and\",[\"<\",0,1]]}]}",
-        NO_CRITERIA,
-        "refused model F90 /\n",
-    ),
-    (
-        "{\"format\":\"product-model 1\",\"root\":\"Box\",\"instances\":1,\
-            \"types\":[{\"name\":\"Box\"},{\"name\":\"Lid\"}]}",
-        r#"{"#,
-        "refused model F90 /\n",
-    ),
-    (
-        BOX,
-        r#"{"format":"order 1","requests":[{"name":"q","holds":["<",0,1]}]}"#,
-        "refused order F90 /\n",
-    ),
-    (
-        BOX,
-        r#"{"format":"order 1","criteria":[{"name":"c","minimise":["+",1,2]}]}"#,
-        "refused order F90 /\n",
-    ),
-];
-
 /// Each is refused with its line.
 fn check_refused(rt: &impl Abort, alloc: Global, rows: &[Refused]) -> Result<(), AllocError> {
     for (model, order, line) in rows {
@@ -186,11 +133,6 @@ fn tells_the_fault_of_an_expression(rt: HostRuntime) -> Result<(), Fail> {
 #[test]
 fn tells_the_first_of_several_faults(rt: HostRuntime) -> Result<(), Fail> {
     Ok(check_refused(&rt, rt.alloc(), &SEVERAL)?)
-}
-
-#[test]
-fn refuses_what_it_cannot_configure_yet(rt: HostRuntime) -> Result<(), Fail> {
-    Ok(check_refused(&rt, rt.alloc(), &UNSUPPORTED)?)
 }
 
 /// The text, with blanks behind it up to so many bytes.
