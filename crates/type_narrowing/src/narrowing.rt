@@ -39,8 +39,6 @@ impl TypeNarrowing {
 }
 
 impl Propagate for TypeNarrowing {
-    ghost use Rattle.std.specs.Prelude.{Unit};
-
     ghost job = { λ p. p };
 
     // Nothing is promised of the states in which it ends.

@@ -1,0 +1,70 @@
+-- How many links to later instances a port has.
+use Rattle.std.proofs.Common.{◌≡◌, ℕ, suc, ◌+◌, ◌-◌, ◌<◌, ◌≤◌, Bool, true, false, not, ◌&&◌, List, [], ◌∷◌, length, refl, ap, sym, subst, ◌∙◌, inl, inr, arith, leb-true, le-leb, zero-le}
+use Rattle.std.specs.Prelude.{IsTrue, ◌==◌, nat_le, nat_lt, slice_get, slice_index_or}
+use Rattle.std.specs.Option.{option_map_or}
+use Rattle.std.specs.List.{filter, count_by}
+use Rattle.std.proofs.lemmas.Bool.{and_parts, and_from, or_left, or_right, eqb-true, eq-eqb, false≢true}
+use Rattle.std.proofs.lemmas.Bool.Decides.{nat_tests}
+use Rattle.std.proofs.lemmas.Option.{slice_get-get_or, slice_get_within}
+use Rattle.std.proofs.lemmas.List.Sums.{count_by-le-length}
+use Rattle.base_laws.specs.Places.{IsAt}
+use Rattle.base_laws.proofs.Tests.{list_any_at, list_any_from, option_map_or_at, option_map_or_from}
+use Rattle.prod_model.specs.declared.model.Model.{Model}
+use Rattle.prod_model.specs.declared.model.PortAt.{PortAt}
+use Rattle.prod_model.specs.Taxonomy.{ports_at}
+use Rattle.prod_model.specs.Valid.{IsValid}
+use Rattle.config_value.specs.declared.configuration.Instance.{Instance}
+use Rattle.config_value.specs.declared.literal.Literal.TheVariants as literal
+use Rattle.config_value.specs.Value.{links_of}
+use Rattle.config_value.specs.Shaped.{ascends, is_shaped}
+use Rattle.config_value.specs.ShapedSentences.{HasShape, AreLinksOf}
+use Rattle.config_value.specs.Literals.{has_literal, has_port}
+use Rattle.state_space.specs.Sets.{has_number}
+use Rattle.state_space.specs.Declared.{HasIds}
+use Rattle.state_space.proofs.PortLaws.{all_has, has_number-filter, below_rest, ascends_rest, ascends-filter, count_by-parted, count_by-none, count_by-le, count_by-all}
+use Rattle.state_space.proofs.EntailsLaws.{at_instance_same, links_ascend, spelled_links_at}
+use Rattle.state_space.proofs.GenerationKept.{links_at_place, port_links}
+use Rattle.type_narrowing.proofs.OfKind.{IsOfKind}
+
+-- ---- ascending numbers
+
+-- between two bounds there are no more than the bounds leave
+few_between : (low high : ℕ) (xs : List ℕ) → IsTrue (ascends xs) → ((k : ℕ) → IsTrue (has_number xs k) → (low ≤ k) × (k < high)) → length xs ≤ high - low
+few_between low high [] up between = zero-le
+few_between low high (x ∷ xs) up between =
+    let here = between x (or_left _ _ (eq-eqb x x refl)) in
+    let rest = few_between (suc x) high xs (ascends_rest x xs up) (λ k there. let above = below_rest x xs up k there in (omega (arith, above), (between k (or_right _ _ there)).1)) in
+    omega (arith, here.0, here.1, rest)
+
+-- of numbers below a bound few are from another one on
+few_later : (from high : ℕ) (xs : List ℕ) → IsTrue (ascends xs) → ((k : ℕ) → IsTrue (has_number xs k) → k < high) → count_by (nat_le from) xs ≤ high - from
+few_later from high xs up below =
+    let later = filter (nat_le from) xs in
+    let few = few_between from high later (ascends-filter (nat_le from) xs up) (λ k there.
+    let both = and_parts (has_number xs k) (nat_le from k) (sym (has_number-filter (nat_le from) xs k) ∙ there) in
+    (leb-true from k both.1, below k both.0)) in
+    let counted = count_by-le-length (nat_le from) later in
+    let parted = count_by-parted (nat_le from) (nat_le from) xs in
+    let none = count_by-none (λ k. nat_le from k && not (nat_le from k)) xs (λ k there. never (nat_le from k)) in
+    omega (arith, few, counted, parted, none)
+  where
+    never : (b : Bool) → (b && not b) ≡ false
+    never true = refl
+    never false = refl
+
+-- ---- the links of a port
+
+module _ (m : Model) (c : List Instance) (valid : HasIds m) (shape : HasShape m c) (i : ℕ) (y : Instance) (there : IsAt c i y)
+    (up : (p : ℕ) → IsTrue (ascends (links_of m y p))) where
+  -- a port links no more later instances than are left
+  pub later_left : (p made : ℕ) → IsTrue (has_port m y.kind p) → count_by (nat_le made) (links_of m y p) ≤ m.instances - made
+  later_left p made has =
+      let port = port_links m c valid shape i y there p has in
+      let few = few_later made (length c) (links_of m y p) (up p) (λ k linked.
+      let place = list_any_at (λ j. j == k) (links_of m y p) linked in
+      let under = port.2.on_target place.0 place.1 place.2 in
+      let below : place.1 < length c = slice_get_within c place.1 under.instance under.there in
+      let same : place.1 ≡ k = eqb-true place.1 k place.3 in
+      omega (arith, below, same)) in
+      let size : length c ≤ m.instances = shape.size.1 in
+      omega (arith, few, size)

@@ -1,0 +1,4 @@
+pub mod Narrowings
+pub mod Failures
+pub mod OfKind
+pub mod LaterLinks
