@@ -1,6 +1,6 @@
 -- What the reasons here speak of, and what fails for them.
-use Rattle.std.proofs.Common.{◌≡◌, ℕ, List, Bool, true, false, not, ◌&&◌, ◌||◌, refl, ap, sym, ◌∙◌}
-use Rattle.std.specs.Prelude.{IsTrue, ◌==◌, None}
+use Rattle.std.proofs.Common.{◌≡◌, ℕ, List, Bool, true, false, not, ◌&&◌, ◌||◌, refl, ap, sym, subst, ◌∙◌}
+use Rattle.std.specs.Prelude.{IsTrue, IfOk, Result, Ok, Err, ◌==◌, Option, None, Some}
 use Rattle.std.specs.Int.{bit_at}
 use Rattle.std.specs.List.{list_all, enumerate_from}
 use Rattle.std.proofs.lemmas.Bool.{and_parts, or_left, false≢true}
@@ -27,7 +27,9 @@ use Rattle.state_space.proofs.EntailsLaws.{entailed_holds}
 use Rattle.reason_trail.specs.Jobs.{Task, IsWanted}
 use Rattle.reason_trail.specs.Reasons.{IsSubject, SupportsFailure}
 use Rattle.reason_trail.specs.Propagators.{IsFailure}
-use Rattle.type_narrowing.specs.steps.Narrowing.{resting_on}
+use Rattle.reason_trail.specs.Trails.{Trace}
+use Rattle.reason_trail.specs.declared.reason.Reason.{Reason}
+use Rattle.type_narrowing.specs.steps.Narrowing.{IsOutcome, resting_on}
 
 -- ---- what satisfies a model
 
@@ -80,3 +82,9 @@ fails j s literals supported entailed = record {
   kept = none_kept j.goal.keep;
   cut = λ named. absurd (false≢true named);
 }
+
+-- the failure that is answered is one of the state
+pub answered : {E : Type 0} (t : Trace) (r : Result (Option Reason) E) (literals : List Literal) → IfOk r (λ failed. failed ≡ Some (resting_on literals))
+    → IsFailure t.job t.state (resting_on literals) → IfOk r (IsOutcome t)
+answered t (Ok failed) literals is failure = subst (IsOutcome t) (sym is) failure
+answered t (Err e) literals is failure = is

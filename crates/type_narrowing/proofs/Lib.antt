@@ -1,4 +1,5 @@
 pub mod Narrowings
 pub mod Failures
 pub mod OfKind
+pub mod RangeReasons
 pub mod LaterLinks

@@ -23,7 +23,7 @@ use Rattle.config_value.specs.Literals.{has_literal, has_attribute}
 use Rattle.literal_book.specs.Nogoods.{has_literals}
 use Rattle.state_space.specs.Sets.{has_number}
 use Rattle.state_space.specs.Declared.{HasIds}
-use Rattle.state_space.specs.State.{State, IsState, kinds_at}
+use Rattle.state_space.specs.State.{State, IsState, number_made, kinds_at}
 use Rattle.state_space.specs.Entails.{entails}
 use Rattle.state_space.specs.Described.{entails_all}
 use Rattle.state_space.proofs.DescriptionLaws.{under_leaf}
@@ -37,6 +37,9 @@ use Rattle.branch_cut.proofs.FixedLaws.{type_known}
 module _ (m : Model) (s : State) (i kind : ℕ) (state : IsState m s) (sole : kinds_at s i ≡ kind ∷ []) where
   possible : IsTrue (has_number (kinds_at s i) kind)
   possible = ap (λ ks. has_number ks kind) sole ∙ or_left (kind == kind) _ (eq-eqb kind kind refl)
+
+  pub made : i < number_made s
+  made = let x = made_with s i kind possible in slice_get_within s.made i x.0 x.1
 
   pub leaf : IsTrue (is_leaf m kind)
   leaf = leaf_at m s i kind state possible
