@@ -5,25 +5,29 @@ use Rattle.std.specs.Int.{bit_at}
 use Rattle.std.specs.List.{list_all, enumerate_from}
 use Rattle.std.proofs.lemmas.Bool.{and_parts, or_left, false≢true}
 use Rattle.std.proofs.lemmas.Nat.Bits.{bit_at-zero}
+use Rattle.base_laws.specs.Places.{IsAt}
 use Rattle.base_laws.proofs.Tests.{list_all_from, list_all_by}
 use Rattle.prod_model.specs.declared.model.Model.{Model}
 use Rattle.prod_model.specs.declared.model.Order.{Order}
+use Rattle.prod_model.specs.Valid.{IsValid}
 use Rattle.prod_model.specs.declared.model.Request.{Request}
 use Rattle.config_value.specs.declared.configuration.Instance.{Instance}
 use Rattle.config_value.specs.declared.literal.Literal.{Literal}
-use Rattle.config_value.specs.Shaped.{is_shaped}
+use Rattle.config_value.specs.Shaped.{is_shaped, ascends}
+use Rattle.config_value.specs.Value.{links_of}
 use Rattle.config_value.specs.ShapedSentences.{HasShape}
 use Rattle.config_value.specs.Spelled.{is_spelled}
 use Rattle.config_value.specs.Numbered.{is_numbered}
 use Rattle.config_value.specs.Satisfies.{satisfies, follows_rules, meets}
 use Rattle.config_value.specs.Literals.{has_literal}
 use Rattle.config_value.proofs.ShapedSentences.{shaped_sentences}
+use Rattle.config_value.proofs.SpelledLaws.{shaped_is_spelled}
 use Rattle.literal_book.specs.Nogoods.{asks_for, meets_asked, has_literals, AreKept}
 use Rattle.state_space.specs.State.{State, IsState}
 use Rattle.state_space.specs.Covers.{Covers}
 use Rattle.state_space.specs.Entails.{entails}
 use Rattle.state_space.specs.Described.{entails_all}
-use Rattle.state_space.proofs.EntailsLaws.{entailed_holds}
+use Rattle.state_space.proofs.EntailsLaws.{entailed_holds, links_ascend, spelled_links_at}
 use Rattle.reason_trail.specs.Jobs.{Task, IsWanted}
 use Rattle.reason_trail.specs.Reasons.{IsSubject, SupportsFailure}
 use Rattle.reason_trail.specs.Propagators.{IsFailure}
@@ -43,6 +47,11 @@ unfolding satisfies
 formed m c satisfied =
     let parts = and_parts (is_shaped m c) (is_numbered c) (and_parts (is_shaped m c && is_numbered c) (follows_rules m c) satisfied).0 in
     record { shaped = (shaped_sentences m c).0 parts.0; numbered = parts.1 }
+
+-- the links of its instances ascend
+pub links_up : (m : Model) (c : List Instance) → IsValid m → IsFormed m c → (i : ℕ) (y : Instance) → IsAt c i y → (p : ℕ) → IsTrue (ascends (links_of m y p))
+links_up m c valid is i y at p =
+    links_ascend m y p (spelled_links_at m c i y (shaped_is_spelled m c valid.declared ((shaped_sentences m c).1 is.shaped)) at)
 
 -- ---- no requests
 

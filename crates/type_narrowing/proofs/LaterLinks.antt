@@ -24,6 +24,7 @@ use Rattle.state_space.specs.Declared.{HasIds}
 use Rattle.state_space.proofs.PortLaws.{all_has, has_number-filter, below_rest, ascends_rest, ascends-filter, count_by-parted, count_by-none, count_by-le, count_by-all}
 use Rattle.state_space.proofs.EntailsLaws.{at_instance_same, links_ascend, spelled_links_at}
 use Rattle.state_space.proofs.GenerationKept.{links_at_place, port_links}
+use Rattle.type_narrowing.specs.steps.Narrowing.{IsAmong}
 use Rattle.type_narrowing.proofs.OfKind.{IsOfKind}
 
 -- ---- ascending numbers
@@ -68,3 +69,23 @@ module _ (m : Model) (c : List Instance) (valid : HasIds m) (shape : HasShape m 
       omega (arith, below, same)) in
       let size : length c ≤ m.instances = shape.size.1 in
       omega (arith, few, size)
+
+-- ---- the links of a port that the only type of an instance has
+
+module _ (m : Model) (c : List Instance) (valid : HasIds m) (shape : HasShape m c) (i t : ℕ) (port : PortAt)
+    (among : IsAmong (ports_at m t) port) (of : IsOfKind c i t) where
+  stands : IsAt (ports_at m of.instance.kind) among.0 port
+  stands = subst (λ u. IsAt (ports_at m u) among.0 port) (sym of.kind) among.1
+
+  pub has_it : IsTrue (has_port m of.instance.kind port.id)
+  has_it = list_any_from (λ (q : PortAt). q.id == port.id) (ports_at m of.instance.kind) among.0 port stands (eq-eqb port.id port.id refl)
+
+  -- they are no more than the type allows
+  pub few_links : length (links_of m of.instance port.id) ≤ port.high
+  few_links =
+      let y = of.instance in
+      let long = (shape.built i y of.there).each_port in
+      let links = slice_index_or y.links among.0 [] in
+      let there : IsAt y.links among.0 links = slice_get-get_or y.links among.0 [] (subst (λ n. among.0 < n) (sym long) (slice_get_within (ports_at m y.kind) among.0 port stands)) in
+      let same = links_at_place m c valid shape i y of.there among.0 port links stands there in
+      subst (λ ls. length ls ≤ port.high) (sym same) (shape.links i among.0 y port links of.there stands there).number.1

@@ -3,3 +3,4 @@ pub mod Failures
 pub mod OfKind
 pub mod RangeReasons
 pub mod LaterLinks
+pub mod PortReasons
