@@ -1,10 +1,11 @@
 -- What the type of an instance says of a port, and which reasons support it.
-use Rattle.std.proofs.Common.{◌≡◌, ℕ, ◌+◌, ◌-◌, ◌<◌, ◌≤◌, Bool, true, false, not, ◌&&◌, List, [], ◌∷◌, ◌++◌, length, map, refl, ap, ap₂, sym, subst, ◌∙◌, arith, leb-true, le-leb}
+use Rattle.std.proofs.Common.{get_or, ◌≡◌, ℕ, ◌+◌, ◌-◌, ◌<◌, ◌≤◌, Bool, true, false, not, ◌&&◌, List, [], ◌∷◌, ◌++◌, length, map, refl, ap, ap₂, sym, subst, ◌∙◌, arith, leb-true, le-leb}
 use Rattle.std.specs.Prelude.{IsTrue, IsSome, None, Some, ◌==◌, nat_le, nat_lt, slice_get, if◌then◌else◌}
 use Rattle.std.specs.Option.{option_map_or, option_and_then, is_some}
 use Rattle.std.specs.List.{list_all, filter, count_by, range_with_len}
 use Rattle.std.proofs.lemmas.Bool.{and_parts, and_from, eq-eqb, false≢true}
 use Rattle.std.proofs.lemmas.Bool.Decides.{nat_tests}
+use Rattle.std.proofs.lemmas.Option.{slice_get-get_or}
 use Rattle.base_laws.specs.Places.{IsAt}
 use Rattle.base_laws.proofs.Tests.{option_map_or_at, option_map_or_from}
 use Rattle.prod_model.specs.declared.model.Model.{Model}
@@ -41,6 +42,10 @@ use Rattle.type_narrowing.specs.steps.Narrowing.{IsAmong, resting_on}
 use Rattle.type_narrowing.proofs.Failures.{IsFormed, formed, fails, links_up}
 use Rattle.type_narrowing.proofs.OfKind.{IsOfKind, leaf, made, kind_entailed, of_kind, of_kind_alone}
 use Rattle.type_narrowing.proofs.LaterLinks.{later_left, has_it, few_links}
+
+-- what a place of a list reads is among the list
+pub among_read : (xs ys : List PortAt) (k : ℕ) (d : PortAt) → xs ≡ ys → k < length xs → IsAmong ys (get_or xs k d)
+among_read xs ys k d are within = (k, ap (λ l. slice_get l k) (sym are) ∙ slice_get-get_or xs k d within)
 
 -- no more of some links are later than there are
 later_at_most : (from : ℕ) (links : List ℕ) → count_by (nat_le from) links ≤ length links
