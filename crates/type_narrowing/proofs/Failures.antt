@@ -1,8 +1,7 @@
 -- What the reasons here speak of, and what fails for them.
-use Rattle.std.proofs.Common.{◌≡◌, ℕ, List, Bool, true, false, not, ◌&&◌, ◌||◌, refl, ap, sym, subst, ◌∙◌}
+use Rattle.std.proofs.Common.{◌≡◌, ℕ, List, Bool, false, not, ◌&&◌, ◌||◌, ap, sym, subst, ◌∙◌}
 use Rattle.std.specs.Prelude.{IsTrue, IfOk, Result, Ok, Err, ◌==◌, Option, None, Some}
-use Rattle.std.specs.Int.{bit_at}
-use Rattle.std.specs.List.{list_all, enumerate_from}
+use Rattle.std.specs.List.{enumerate_from}
 use Rattle.std.proofs.lemmas.Bool.{and_parts, or_left, false≢true}
 use Rattle.std.proofs.lemmas.Nat.Bits.{bit_at-zero}
 use Rattle.base_laws.specs.Places.{IsAt}
@@ -16,7 +15,6 @@ use Rattle.config_value.specs.declared.literal.Literal.{Literal}
 use Rattle.config_value.specs.Shaped.{is_shaped, ascends}
 use Rattle.config_value.specs.Value.{links_of}
 use Rattle.config_value.specs.ShapedSentences.{HasShape}
-use Rattle.config_value.specs.Spelled.{is_spelled}
 use Rattle.config_value.specs.Numbered.{is_numbered}
 use Rattle.config_value.specs.Satisfies.{satisfies, follows_rules, meets}
 use Rattle.config_value.specs.Literals.{has_literal}

@@ -1,28 +1,23 @@
 -- How many links to later instances a port has.
-use Rattle.std.proofs.Common.{◌≡◌, ℕ, suc, ◌+◌, ◌-◌, ◌<◌, ◌≤◌, Bool, true, false, not, ◌&&◌, List, [], ◌∷◌, length, refl, ap, sym, subst, ◌∙◌, inl, inr, arith, leb-true, le-leb, zero-le}
-use Rattle.std.specs.Prelude.{IsTrue, ◌==◌, nat_le, nat_lt, slice_get, slice_index_or}
-use Rattle.std.specs.Option.{option_map_or}
+use Rattle.std.proofs.Common.{◌≡◌, ℕ, suc, ◌-◌, ◌<◌, ◌≤◌, Bool, true, false, not, ◌&&◌, List, [], ◌∷◌, length, refl, sym, subst, ◌∙◌, arith, leb-true, zero-le}
+use Rattle.std.specs.Prelude.{IsTrue, ◌==◌, nat_le, slice_index_or}
 use Rattle.std.specs.List.{filter, count_by}
-use Rattle.std.proofs.lemmas.Bool.{and_parts, and_from, or_left, or_right, eqb-true, eq-eqb, false≢true}
-use Rattle.std.proofs.lemmas.Bool.Decides.{nat_tests}
+use Rattle.std.proofs.lemmas.Bool.{and_parts, or_left, or_right, eqb-true, eq-eqb}
 use Rattle.std.proofs.lemmas.Option.{slice_get-get_or, slice_get_within}
 use Rattle.std.proofs.lemmas.List.Sums.{count_by-le-length}
 use Rattle.base_laws.specs.Places.{IsAt}
-use Rattle.base_laws.proofs.Tests.{list_any_at, list_any_from, option_map_or_at, option_map_or_from}
+use Rattle.base_laws.proofs.Tests.{list_any_at, list_any_from}
 use Rattle.prod_model.specs.declared.model.Model.{Model}
 use Rattle.prod_model.specs.declared.model.PortAt.{PortAt}
 use Rattle.prod_model.specs.Taxonomy.{ports_at}
-use Rattle.prod_model.specs.Valid.{IsValid}
 use Rattle.config_value.specs.declared.configuration.Instance.{Instance}
-use Rattle.config_value.specs.declared.literal.Literal.TheVariants as literal
 use Rattle.config_value.specs.Value.{links_of}
-use Rattle.config_value.specs.Shaped.{ascends, is_shaped}
-use Rattle.config_value.specs.ShapedSentences.{HasShape, AreLinksOf}
-use Rattle.config_value.specs.Literals.{has_literal, has_port}
+use Rattle.config_value.specs.Shaped.{ascends}
+use Rattle.config_value.specs.ShapedSentences.{HasShape}
+use Rattle.config_value.specs.Literals.{has_port}
 use Rattle.state_space.specs.Sets.{has_number}
 use Rattle.state_space.specs.Declared.{HasIds}
-use Rattle.state_space.proofs.PortLaws.{all_has, has_number-filter, below_rest, ascends_rest, ascends-filter, count_by-parted, count_by-none, count_by-le, count_by-all}
-use Rattle.state_space.proofs.EntailsLaws.{at_instance_same, links_ascend, spelled_links_at}
+use Rattle.state_space.proofs.PortLaws.{has_number-filter, below_rest, ascends_rest, ascends-filter, count_by-parted, count_by-none}
 use Rattle.state_space.proofs.GenerationKept.{links_at_place, port_links}
 use Rattle.type_narrowing.specs.steps.Narrowing.{IsAmong}
 use Rattle.type_narrowing.proofs.OfKind.{IsOfKind}

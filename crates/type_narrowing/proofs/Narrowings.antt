@@ -1,5 +1,5 @@
 -- Steps that lose nothing that is wanted, one after the other.
-use Rattle.std.proofs.Common.{◌≡◌, ◌≢◌, ℕ, zero, suc, ◌<◌, ◌≤◌, List, [], ◌∷◌, ◌++◌, length, length-append, take, Option, None, Some, true, false, refl, ap, sym, subst, ◌∙◌, inl, inr, arith}
+use Rattle.std.proofs.Common.{◌≡◌, ℕ, zero, suc, ◌≤◌, List, [], ◌∷◌, ◌++◌, length, length-append, take, Option, None, Some, refl, ap, sym, subst, ◌∙◌, inl, inr, arith}
 use Rattle.std.specs.Prelude.{IsTrue, slice_get}
 use Rattle.std.specs.Option.{option_map, option_map_or}
 use Rattle.std.proofs.lemmas.Bool.Decides.{eqb_tells}
@@ -11,7 +11,7 @@ use Rattle.config_value.specs.Literals.{has_literal}
 use Rattle.domain_store.specs.declared.change.Change.{Change}
 use Rattle.domain_store.specs.declared.change.Change.TheVariants.{Same, Smaller, Empty}
 use Rattle.state_space.specs.Made.{MadeInstance}
-use Rattle.state_space.specs.State.{State, IsState, number_made, kinds_at, with_made, changed_at}
+use Rattle.state_space.specs.State.{State, number_made, kinds_at, with_made}
 use Rattle.state_space.specs.Entails.{fits}
 use Rattle.state_space.specs.Covers.{Covers}
 use Rattle.state_space.specs.Changes.{ChangesBy}
@@ -19,9 +19,8 @@ use Rattle.state_space.proofs.Changed.{length-changed_at, slice_get-changed_at_s
 use Rattle.state_space.proofs.ValidStates.{change_keeps}
 use Rattle.prod_model.specs.declared.model.Model.{Model}
 use Rattle.reason_trail.specs.declared.reason.Why.{Why}
-use Rattle.reason_trail.specs.Jobs.{Task, IsWanted}
-use Rattle.reason_trail.specs.Propagators.{Filters}
-use Rattle.reason_trail.specs.Trails.{Trace, Extends, IsTrail, IsPushed, length_of, state_at, cut_to}
+use Rattle.reason_trail.specs.Jobs.{IsWanted}
+use Rattle.reason_trail.specs.Trails.{Trace, Extends, IsTrail, IsPushed, length_of, cut_to}
 use Rattle.reason_trail.proofs.Trails.{now_is_state, new_stage, state_at-pushed, state_at-past, state_at-cut_to, cut_to-whole}
 use Rattle.type_narrowing.specs.steps.Narrowing.{Narrows, leaves_types}
 use Rattle.type_narrowing.proofs.Failures.{formed}

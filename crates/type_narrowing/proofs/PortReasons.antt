@@ -1,9 +1,9 @@
 -- What the type of an instance says of a port, and which reasons support it.
-use Rattle.std.proofs.Common.{get_or, ◌≡◌, ℕ, ◌+◌, ◌-◌, ◌<◌, ◌≤◌, Bool, true, false, not, ◌&&◌, List, [], ◌∷◌, ◌++◌, length, map, refl, ap, ap₂, sym, subst, ◌∙◌, arith, leb-true, le-leb}
-use Rattle.std.specs.Prelude.{IsTrue, IsSome, None, Some, ◌==◌, nat_le, nat_lt, slice_get, if◌then◌else◌}
-use Rattle.std.specs.Option.{option_map_or, option_and_then, is_some}
-use Rattle.std.specs.List.{list_all, filter, count_by, range_with_len}
-use Rattle.std.proofs.lemmas.Bool.{and_parts, and_from, eq-eqb, false≢true}
+use Rattle.std.proofs.Common.{get_or, ◌≡◌, ℕ, ◌+◌, ◌-◌, ◌<◌, ◌≤◌, true, false, not, ◌&&◌, List, [], ◌∷◌, ◌++◌, length, map, refl, ap, ap₂, sym, subst, ◌∙◌, arith, leb-true, le-leb}
+use Rattle.std.specs.Prelude.{IsTrue, IsSome, None, Some, nat_le, nat_lt, slice_get, if◌then◌else◌}
+use Rattle.std.specs.Option.{option_map_or, option_and_then}
+use Rattle.std.specs.List.{filter, count_by, range_with_len}
+use Rattle.std.proofs.lemmas.Bool.{and_parts, and_from, eq-eqb}
 use Rattle.std.proofs.lemmas.Bool.Decides.{nat_tests}
 use Rattle.std.proofs.lemmas.Option.{slice_get-get_or}
 use Rattle.base_laws.specs.Places.{IsAt}
@@ -14,17 +14,14 @@ use Rattle.prod_model.specs.Limits.{most_links}
 use Rattle.prod_model.specs.Taxonomy.{ports_at}
 use Rattle.prod_model.specs.Valid.{IsValid}
 use Rattle.config_value.specs.declared.configuration.Instance.{Instance}
-use Rattle.config_value.specs.declared.literal.Literal.{Literal}
-use Rattle.config_value.specs.declared.literal.Literal.TheVariants.{Kind, Linked, NotLinked, LinksAtMost, LinksAtLeast, FreshAtMost, FreshAtLeast}
+use Rattle.config_value.specs.declared.literal.Literal.TheVariants.{Kind, Linked, NotLinked, LinksAtLeast, FreshAtMost, FreshAtLeast}
 use Rattle.config_value.specs.Value.{links_of}
 use Rattle.config_value.specs.Shaped.{ascends}
 use Rattle.config_value.specs.Literals.{has_literal, has_port}
-use Rattle.config_value.specs.Satisfies.{satisfies}
 use Rattle.state_space.specs.Made.{port_of_made}
 use Rattle.state_space.specs.Ports.{PortState, parted, allows}
 use Rattle.state_space.specs.Sets.{has_number}
 use Rattle.state_space.specs.State.{State, IsState, IsPortOf, number_made, kinds_at, port_at}
-use Rattle.state_space.specs.Covers.{Covers}
 use Rattle.state_space.specs.Entails.{entails, fits}
 use Rattle.state_space.specs.Descriptions.{links_description, count_description}
 use Rattle.state_space.specs.Described.{entails_all}
@@ -36,7 +33,7 @@ use Rattle.state_space.proofs.PortLaws.{ascends-filter, count_by-within, count_b
 use Rattle.state_space.proofs.NarrowingLaws.{true_along}
 use Rattle.branch_cut.proofs.FixedLaws.{all_have_port_at, port_there}
 use Rattle.reason_trail.specs.Jobs.{Task, IsTask}
-use Rattle.reason_trail.specs.Reasons.{Supports, SupportsHere, SupportsFailure}
+use Rattle.reason_trail.specs.Reasons.{Supports, SupportsHere}
 use Rattle.reason_trail.specs.Propagators.{IsFailure}
 use Rattle.type_narrowing.specs.steps.Narrowing.{IsAmong, resting_on}
 use Rattle.type_narrowing.proofs.Failures.{IsFormed, formed, fails, links_up}

@@ -1,27 +1,25 @@
 -- What the type of an instance says of a range, and which reasons support it.
-use Rattle.std.proofs.Common.{◌≡◌, ℕ, ℤ, pos, ◌<ℤ◌, Bool, true, [], ◌∷◌, refl, ap, ap₂, sym, subst, arith}
+use Rattle.std.proofs.Common.{◌≡◌, ℕ, ℤ, pos, ◌<ℤ◌, true, [], ◌∷◌, refl, ap₂, sym, subst, arith}
 use Rattle.std.specs.Prelude.{IsTrue, IsSome, None, int_lt, if◌then◌else◌}
 use Rattle.std.specs.Option.{option_map_or}
-use Rattle.std.specs.List.{list_all}
 use Rattle.std.proofs.lemmas.Bool.{and_parts, and_from}
 use Rattle.std.proofs.lemmas.Int.{ints}
-use Rattle.base_laws.specs.Places.{IsAt}
 use Rattle.prod_model.specs.declared.model.AttrAt.{AttrAt}
 use Rattle.prod_model.specs.declared.model.Domain.TheVariants.{Range}
 use Rattle.prod_model.specs.Taxonomy.{attributes_at}
-use Rattle.config_value.specs.declared.literal.Literal.TheVariants.{Kind, AtMost, AtLeast, ValueIsNot}
+use Rattle.config_value.specs.declared.literal.Literal.TheVariants.{Kind, AtMost, AtLeast}
 use Rattle.config_value.specs.Literals.{has_literal}
 use Rattle.state_space.specs.Values.{least, greatest}
 use Rattle.state_space.specs.State.{State, IsState, kinds_at, domain_at, low_at, high_at}
 use Rattle.state_space.specs.Entails.{entails, fits}
-use Rattle.state_space.specs.Descriptions.{gaps, values_description}
+use Rattle.state_space.specs.Descriptions.{values_description}
 use Rattle.state_space.specs.Described.{entails_all}
 use Rattle.state_space.proofs.ValidLaws.{valid_has_ids}
 use Rattle.state_space.proofs.DescribedParts.{domain_there}
 use Rattle.state_space.proofs.DescriptionLaws.{description_is_entailed}
 use Rattle.branch_cut.proofs.FixedLaws.{all_have_attribute_at, attribute_there}
 use Rattle.reason_trail.specs.Jobs.{Task, IsTask}
-use Rattle.reason_trail.specs.Reasons.{Supports, SupportsFailure}
+use Rattle.reason_trail.specs.Reasons.{Supports}
 use Rattle.reason_trail.specs.Propagators.{IsFailure}
 use Rattle.type_narrowing.specs.steps.Narrowing.{IsAmong, resting_on}
 use Rattle.type_narrowing.proofs.Failures.{formed, fails}
@@ -67,8 +65,7 @@ module _ (j : Task) (s : State) (i t id : ℕ) (low high : ℤ) (task : IsTask j
       let told = (description_is_entailed j.model s i state (made j.model s i t state sole)).attribute id in
       let said = subst (entails_all j.model s) (ap₂ (λ b o. if b then option_map_or (values_description i id) o [] else []) all domain.1) told in
       let first = and_parts (entails j.model s (AtLeast i id (least d))) _ said in
-      let second = and_parts (entails j.model s (AtMost i id (greatest d))) _ first.1 in
-      (
+      let second = and_parts (entails j.model s (AtMost i id (greatest d))) _ first.1 in (
         subst (λ o. IsTrue (entails j.model s (AtLeast i id (option_map_or least o (pos 0))))) (sym domain.1) first.0,
         subst (λ o. IsTrue (entails j.model s (AtMost i id (option_map_or greatest o (pos 0))))) (sym domain.1) second.0,
       )

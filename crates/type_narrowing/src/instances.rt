@@ -1,6 +1,5 @@
 //! An instance of one possible type.
 ghost use Rattle.std.specs.Prelude.{◌≡◌, ◌≢◌, ◌<◌, ◌^◌, ◌∷◌, [], IfOk, IfSome};
-ghost use Rattle.prod_model.specs.Taxonomy.{attributes_at, ports_at};
 ghost use Rattle.state_space.specs.State.{number_made, kinds_at};
 ghost use Rattle.type_narrowing.specs.steps.Narrowing.{Narrows, IsOutcome};
 

@@ -1,7 +1,7 @@
 //! The ports of an instance of one possible type.
-ghost use Rattle.std.specs.Prelude.{◌≡◌, ◌<◌, ◌≤◌, ◌-◌, ◌∷◌, [], IfOk, Some, length};
+ghost use Rattle.std.specs.Prelude.{◌≡◌, ◌∷◌, [], IfOk};
 ghost use Rattle.prod_model.specs.Taxonomy.{ports_at};
-ghost use Rattle.state_space.specs.State.{number_made, kinds_at, port_at};
+ghost use Rattle.state_space.specs.State.{kinds_at};
 ghost use Rattle.type_narrowing.specs.steps.Narrowing.{Narrows, IsOutcome, IsAmong};
 
 use crate::reasons::{derive_here, derive_of_kind, failed};

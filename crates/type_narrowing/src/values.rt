@@ -1,6 +1,5 @@
 //! The values of an instance of one possible type.
-ghost use Rattle.std.specs.Prelude.{◌≡◌, ◌∷◌, [], ℕ, IfOk};
-ghost use Rattle.base_laws.specs.Places.{IsAt};
+ghost use Rattle.std.specs.Prelude.{◌≡◌, ◌∷◌, [], ℤ, IfOk};
 ghost use Rattle.prod_model.specs.Taxonomy.{attributes_at};
 ghost use Rattle.prod_model.specs.declared.model.Domain.TheVariants.{Range};
 ghost use Rattle.state_space.specs.State.{kinds_at};
@@ -52,8 +51,8 @@ fn narrow_range(
     if failure.is_some() {
         return Ok(failure);
     }
-    raise(alloc, trail, i, kind, attr, low, high)?;
-    lower(alloc, trail, i, kind, attr, low, high)?;
+    raise(alloc, trail, i, kind, attr, low)?;
+    lower(alloc, trail, i, kind, attr, high)?;
     Ok(None)
 }
 
@@ -102,10 +101,9 @@ fn raise(
     kind: u32,
     attr: u32,
     low: i64,
-    high: i64,
 ) -> Result<(), AllocError>
     requires sole { kinds_at trail.old.state i ≡ kind ∷ [] }
-    requires declared { IsAmong (attributes_at trail.old.job.model kind)
+    requires declared { (high : ℤ) × IsAmong (attributes_at trail.old.job.model kind)
         (record { id = attr; domain = Range low high }) }
     ensures { Narrows trail.old trail.new }
 {
@@ -128,11 +126,10 @@ fn lower(
     i: u32,
     kind: u32,
     attr: u32,
-    low: i64,
     high: i64,
 ) -> Result<(), AllocError>
     requires sole { kinds_at trail.old.state i ≡ kind ∷ [] }
-    requires declared { IsAmong (attributes_at trail.old.job.model kind)
+    requires declared { (low : ℤ) × IsAmong (attributes_at trail.old.job.model kind)
         (record { id = attr; domain = Range low high }) }
     ensures { Narrows trail.old trail.new }
 {

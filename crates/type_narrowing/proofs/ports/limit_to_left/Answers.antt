@@ -1,13 +1,13 @@
 -- The type supports that a port links no more later instances than are left.
 use Rattle.std.proofs.Common.{◌-◌, ap, ap₂, sym, subst, ◌∙◌}
-use Rattle.std.specs.Prelude.{IsTrue, IsSome, None}
-use Rattle.config_value.specs.declared.literal.Literal.TheVariants.{Kind, FreshAtMost}
+use Rattle.std.specs.Prelude.{IsTrue, IsSome}
+use Rattle.config_value.specs.declared.literal.Literal.TheVariants.{FreshAtMost}
 use Rattle.config_value.specs.Literals.{has_literal}
 use Rattle.state_space.specs.State.{number_made, port_at}
 use Rattle.state_space.specs.Entails.{fits}
 use Rattle.state_space.proofs.NarrowingLaws.{true_along}
 use Rattle.type_narrowing.proofs.Narrowings.{narrows_itself}
-use Rattle.type_narrowing.proofs.PortReasons.{links_there, later_fits, left_supported, many_fail, later_fail}
+use Rattle.type_narrowing.proofs.PortReasons.{links_there, later_fits, left_supported}
 use Rattle.type_narrowing.proofs.ports.limit_to_left.Goals as goal
 
 pub port-requires : goal.port-requires

@@ -1,6 +1,6 @@
 -- A port must have more links than its type allows, or more later ones than are left.
 use Rattle.std.proofs.Common.{◌≡◌, ◌+◌, ◌-◌, ◌<◌, [], ◌∷◌, length, ap, ap₂, sym, subst, ◌∙◌, arith}
-use Rattle.std.specs.Prelude.{IsSome, Some}
+use Rattle.std.specs.Prelude.{IsSome}
 use Rattle.config_value.specs.declared.literal.Literal.TheVariants.{Kind, LinksAtLeast, FreshAtLeast}
 use Rattle.state_space.specs.State.{number_made, port_at}
 use Rattle.partial_state.specs.Masks.{instances_of}

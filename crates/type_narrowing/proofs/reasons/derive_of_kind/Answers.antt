@@ -1,5 +1,5 @@
 -- What the type of an instance supports holds of all that is wanted.
-use Rattle.std.proofs.Common.{[], ◌∷◌, ap, sym, subst}
+use Rattle.std.proofs.Common.{[], ◌∷◌, sym, subst}
 use Rattle.config_value.specs.declared.literal.Literal.TheVariants.{Kind}
 use Rattle.state_space.specs.Described.{entails_all}
 use Rattle.reason_trail.specs.declared.reason.Why.TheVariants.{Written}

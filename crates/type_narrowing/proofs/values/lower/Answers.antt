@@ -12,17 +12,17 @@ use Rattle.type_narrowing.proofs.values.lower.Goals as goal
 pub high-requires : goal.high-requires
 high-requires c =
     subst (λ s. IsSome (domain_at s c.args.i c.args.attr)) (sym c.state.ensures.state)
-    (values_there c.args.trail.now.job c.args.trail.now.state c.args.i c.args.kind c.args.attr c.args.low c.args.high c.job-task.ensures.right.task c.state.ensures.problem c.requires.sole c.requires.declared)
+    (values_there c.args.trail.now.job c.args.trail.now.state c.args.i c.args.kind c.args.attr c.requires.declared.0 c.args.high c.job-task.ensures.right.task c.state.ensures.problem c.requires.sole c.requires.declared.1)
 
 pub returns-then-high : goal.returns-then-high
 returns-then-high c = narrows_itself c.args.trail.now
 
 pub derive_of_kind-requires-clause-fits : goal.derive_of_kind-requires-clause-fits
 derive_of_kind-requires-clause-fits c =
-    most_fits c.args.trail.now.job c.args.trail.now.state c.args.i c.args.kind c.args.attr c.args.low c.args.high c.job-task.ensures.right.task c.state.ensures.problem c.requires.sole c.requires.declared _
+    most_fits c.args.trail.now.job c.args.trail.now.state c.args.i c.args.kind c.args.attr c.requires.declared.0 c.args.high c.job-task.ensures.right.task c.state.ensures.problem c.requires.sole c.requires.declared.1 _
 
 pub derive_of_kind-requires-clause-supported : goal.derive_of_kind-requires-clause-supported
 derive_of_kind-requires-clause-supported c = λ x subject has.
     let own : to_z w64 (of_z w64 c.args.high) ≡ c.args.high = search (rules, ints, to_z-of_z) in
     subst (λ v. IsTrue (has_literal c.args.trail.now.job.model x (AtMost c.args.i c.args.attr v))) (sym own)
-    (high_supported c.args.trail.now.job c.args.trail.now.state c.args.i c.args.kind c.args.attr c.args.low c.args.high c.job-task.ensures.right.task c.state.ensures.problem c.requires.sole c.requires.declared x subject has)
+    (high_supported c.args.trail.now.job c.args.trail.now.state c.args.i c.args.kind c.args.attr c.requires.declared.0 c.args.high c.job-task.ensures.right.task c.state.ensures.problem c.requires.sole c.requires.declared.1 x subject has)
