@@ -9,20 +9,18 @@ use Rattle.type_narrowing.proofs.values.narrow_range.Goals as goal
 
 pub raise-requires-clause-declared : goal.raise-requires-clause-declared
 raise-requires-clause-declared c =
-    let own : to_z w64 (of_z w64 c.args.low) ≡ c.args.low = search (rules, ints, to_z-of_z) in
-    (
+    let own : to_z w64 (of_z w64 c.args.low) ≡ c.args.low = search (rules, ints, to_z-of_z) in (
       c.args.high,
       subst (λ v. IsAmong (attributes_at c.args.trail.now.job.model c.args.kind) (record { id = c.args.attr; domain = Range v c.args.high })) (sym own) c.requires.declared,
     )
 
 pub lower-requires-clause-declared : goal.lower-requires-clause-declared
 lower-requires-clause-declared c =
-    let own : to_z w64 (of_z w64 c.args.high) ≡ c.args.high = search (rules, ints, to_z-of_z) in
-    (
+    let own : to_z w64 (of_z w64 c.args.high) ≡ c.args.high = search (rules, ints, to_z-of_z) in (
       c.args.low,
       subst (λ j. IsAmong (attributes_at j.model c.args.kind) (record { id = c.args.attr; domain = Range c.args.low (to_z w64 (of_z w64 c.args.high)) }))
-      (sym c.raise.ensures.filters.extends.job)
-      (subst (λ v. IsAmong (attributes_at c.args.trail.now.job.model c.args.kind) (record { id = c.args.attr; domain = Range c.args.low v })) (sym own) c.requires.declared),
+          (sym c.raise.ensures.filters.extends.job)
+          (subst (λ v. IsAmong (attributes_at c.args.trail.now.job.model c.args.kind) (record { id = c.args.attr; domain = Range c.args.low v })) (sym own) c.requires.declared),
     )
 
 pub returns-in_err-lower-clause-narrows : goal.returns-in_err-lower-clause-narrows
