@@ -12,8 +12,6 @@ pub struct Filtering {
 }
 
 impl Propagate for Filtering {
-    ghost use Rattle.std.specs.Prelude.{Unit};
-
     ghost job = { λ p. p.narrowing };
 
     ghost settled = { λ j s. Unit {0} };
