@@ -1,5 +1,5 @@
 -- What files that are accepted or refused result in.
-use Rattle.std.proofs.Common.{◌≡◌, ℕ, List}
+use Rattle.std.proofs.Common.{ℕ, List}
 use Rattle.std.specs.Prelude.{codes}
 use Rattle.prod_model.specs.declared.model.Model.{Model}
 use Rattle.serde_json.specs.Data.{Data}

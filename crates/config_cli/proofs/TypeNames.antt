@@ -7,7 +7,7 @@ use Rattle.std.proofs.lemmas.List.{length-map}
 use Rattle.prod_model.specs.declared.model.Model.{Model}
 use Rattle.prod_model.specs.declared.model.TypeDecl.{TypeDecl}
 use Rattle.prod_model.specs.Forest.{line, parent_of}
-use Rattle.prod_model.specs.Taxonomy.{declarations_of, is_declared_above, new_declarations, extended_entries, entries_of, made_attribute, made_port, attributes_of, ports_of, attributes_at, ports_at}
+use Rattle.prod_model.specs.Taxonomy.{is_declared_above, new_declarations, extended_entries, entries_of, made_attribute, made_port, attributes_of, ports_of, attributes_at, ports_at}
 use Rattle.prod_model.specs.Valid.{IsValid}
 use Rattle.prod_model.proofs.Ancestors.{length_line_parent, line_none}
 use Rattle.prod_model.proofs.EntryLaws.{entries_of_parent, names_extended}

@@ -42,13 +42,14 @@ fewer test (p ∷ ps) (w ∷ ws) (r ∷ rs) long within met =
 pub parts_are_met : (m : Model) (o : Order) → IsClosedUnderParts (CanBeMet m o)
 unfolding meets_kept
 parts_are_met m o part whole is met =
-    let c = met.0 in
-    (c, record {
-      candidate = record {
-        satisfied = met.1.candidate.satisfied;
-        met = fewer (meets m c) part whole o.requests is.each_request is.within met.1.candidate.met;
-      };
-      extra_met = met.1.extra_met;
-      later = met.1.later;
-    })
-
+    let c = met.0 in (
+      c,
+      record {
+        candidate = record {
+          satisfied = met.1.candidate.satisfied;
+          met = fewer (meets m c) part whole o.requests is.each_request is.within met.1.candidate.met;
+        };
+        extra_met = met.1.extra_met;
+        later = met.1.later;
+      },
+    )

@@ -127,12 +127,7 @@ fn check_answered(
 
 #[test]
 fn prefers_the_least(rt: HostRuntime) -> Result<(), Fail> {
-    Ok(check_answered(
-        &rt,
-        rt.alloc(),
-        &PREFERRED,
-        Status::Preferred,
-    )?)
+    Ok(check_answered(&rt, rt.alloc(), &PREFERRED, Status::Preferred)?)
 }
 
 #[test]

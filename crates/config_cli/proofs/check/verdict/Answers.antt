@@ -1,7 +1,6 @@
 use Rattle.std.proofs.Common.{◌∙◌, ap, refl}
 use Rattle.config_cli.specs.Checked.{broken}
 use Rattle.config_cli.specs.CheckTexts.{broken_text}
-use Rattle.config_cli.proofs.CheckLaws.{small_code}
 use Rattle.config_cli.proofs.check.verdict.Goals as goal
 
 -- the first broken test, under its item's name

@@ -1,12 +1,12 @@
 -- What the questions come to is the preferred conflict of the order.
-use Rattle.std.proofs.Common.{◌≡◌, ◌∙◌, List, ℕ, length, sym, subst, ap}
+use Rattle.std.proofs.Common.{◌∙◌, length, sym, subst, ap}
 use Rattle.std.specs.Prelude.{IsTrue, nat_lt}
 use Rattle.std.specs.List.{list_all}
 use Rattle.config_value.specs.Shaped.{ascends}
 use Rattle.canonical_form.specs.ConflictText.{conflict_text}
 use Rattle.quickxplain.specs.Explains.{ArePlacesOfPreferred, all_of}
 use Rattle.config_cli.specs.steps.Clashes.{CanBeMet}
-use Rattle.config_cli.proofs.ConflictLaws.{all_clash, IsClash, clash_of, clash_ascends, clash_within, clash_told}
+use Rattle.config_cli.proofs.ConflictLaws.{all_clash, clash_of, clash_ascends, clash_within, clash_told}
 use Rattle.config_cli.proofs.solved.clash_outcome.Goals as goal
 
 pub clash-requires-clause-clash : goal.clash-requires-clause-clash

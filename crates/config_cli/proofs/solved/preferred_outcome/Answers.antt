@@ -1,5 +1,5 @@
 -- The first that meets all requests is preferred; and where there is none, they clash.
-use Rattle.std.proofs.Common.{◌≡◌, ◌∙◌, sym, subst, refl}
+use Rattle.std.proofs.Common.{◌∙◌, refl}
 use Rattle.config_value.proofs.SpelledLaws.{shaped_is_spelled}
 use Rattle.branch_cut.proofs.CutLaws.{satisfied_shaped}
 use Rattle.config_cli.specs.Results.{preferred}
