@@ -1,7 +1,7 @@
 -- What always holds of a search, and what some turns do.
-use Rattle.std.proofs.Common.{◌≡◌, ◌≢◌, ℕ, suc, ◌+◌, ◌<◌, ◌≤◌, List, [], ◌∷◌, ◌++◌, length, map, Option, Some, refl, ap, subst, sym, ◌∙◌, arith}
-use Rattle.std.specs.Prelude.{IsTrue, IfSome}
-use Rattle.std.specs.List.{All, AllByRecursion}
+use Rattle.std.proofs.Common.{◌≡◌, ◌≢◌, ℕ, suc, ◌+◌, ◌≤◌, List, [], ◌∷◌, Option, Some, refl, subst, arith}
+use Rattle.std.specs.Prelude.{IsTrue}
+use Rattle.std.specs.List.{AllByRecursion}
 use Rattle.std.proofs.lemmas.List.Elements.{All-from_recursion}
 use Rattle.base_laws.specs.Places.{IsAt}
 use Rattle.config_value.specs.declared.configuration.Instance.{Instance}
@@ -15,8 +15,8 @@ use Rattle.nogood_store.specs.Stores.{Held, IsStore}
 use Rattle.seq_search.specs.declared.advance.Advance.TheVariants.{More, Done}
 use Rattle.seq_search.specs.declared.open_branch.OpenBranch.{OpenBranch}
 use Rattle.seq_search.specs.Searches.{Search, IsSearch}
-use Rattle.seq_search.specs.Advances.{IsNode, Expands, one_more, IsAdvanced, IsStopped}
-use Rattle.seq_search.specs.steps.Opens.{opens, IsStanding, IsKept, search_of}
+use Rattle.seq_search.specs.Advances.{IsNode, Expands, one_more, IsAdvanced}
+use Rattle.seq_search.specs.steps.Opens.{opens, IsKept, search_of}
 use Rattle.seq_search.proofs.Accounts.{lowers}
 
 -- what holds at each place holds of all

@@ -1,11 +1,7 @@
 -- Trails that go on, and the branches that are lengths of them.
-use Rattle.std.proofs.Common.{◌≡◌, ℕ, zero, suc, ◌<◌, ◌≤◌, List, [], ◌∷◌, length, take, Option, None, Some, refl, ap, subst, sym, ◌∙◌, arith}
-use Rattle.std.proofs.lemmas.List.{length-take-le}
-use Rattle.reason_trail.specs.Trails.{Trace, Extends, IsTrail, length_of, state_at, cut_to, pushed}
-use Rattle.reason_trail.proofs.Trails.{state_at-past, state_at-cut_to, cut_to-whole}
-use Rattle.seq_search.specs.declared.open_branch.OpenBranch.{OpenBranch}
-use Rattle.seq_search.specs.OpenBranches.{Open}
-use Rattle.seq_search.specs.steps.Opens.{open_at, opens}
+use Rattle.std.proofs.Common.{◌≡◌, ℕ, zero, suc, ◌≤◌, List, [], ◌∷◌, take, refl, ap, sym, ◌∙◌, arith}
+use Rattle.reason_trail.specs.Trails.{Trace, Extends, length_of, state_at, cut_to}
+use Rattle.reason_trail.proofs.Trails.{state_at-cut_to, cut_to-whole}
 
 -- an extension had the same states at the old lengths
 pub state_at-extended : (old new : Trace) → Extends old new → (n : ℕ) → n ≤ length_of old → state_at new n ≡ state_at old n

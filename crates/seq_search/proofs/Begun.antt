@@ -1,26 +1,18 @@
 -- How a search begins: what is sought is covered by the state that was narrowed, or nothing is sought.
-use Rattle.std.proofs.Common.{◌≡◌, ℕ, ◌<◌, ◌≤◌, get_or, length, List, [], ◌∷◌, Bool, true, false, ◌&&◌, Option, None, refl, ap, subst, sym, ◌∙◌, arith}
-use Rattle.std.specs.Prelude.{IsTrue, IfSome}
-use Rattle.std.specs.List.{list_all}
+use Rattle.std.proofs.Common.{◌≡◌, ℕ, List, [], ◌∷◌, Bool, true, false, None, refl, ap, subst, sym, arith}
 use Rattle.std.proofs.lemmas.Bool.{and_from}
 use Rattle.base_laws.specs.Places.{IsAt}
 use Rattle.base_laws.proofs.Tests.{list_all_at}
 use Rattle.prod_model.specs.declared.model.Model.{Model}
-use Rattle.config_value.specs.declared.configuration.Instance.{Instance}
 use Rattle.config_value.specs.declared.literal.Literal.{Literal}
-use Rattle.config_value.specs.Satisfies.{satisfies}
 use Rattle.config_value.specs.Literals.{has_literal}
 use Rattle.literal_book.specs.declared.nogood.Piece.{Piece}
-use Rattle.literal_book.specs.Nogoods.{has_literals}
 use Rattle.state_space.specs.State.{State}
 use Rattle.state_space.specs.Covers.{Covers}
-use Rattle.state_space.specs.Root.{root}
 use Rattle.state_space.proofs.RootLaws.{root_covers}
 use Rattle.reason_trail.specs.Jobs.{Task, IsTask}
 use Rattle.reason_trail.specs.Trails.{Trace, length_of, state_at, started}
 use Rattle.reason_trail.proofs.Trails.{state_at-past}
-use Rattle.seq_search.specs.declared.open_branch.OpenBranch.{OpenBranch}
-use Rattle.seq_search.specs.Accounts.{AccountsForAll}
 use Rattle.seq_search.specs.steps.Opens.{IsStanding}
 use Rattle.seq_search.specs.steps.Starting.{IsNarrowed}
 use Rattle.seq_search.proofs.Accounts.{begins}

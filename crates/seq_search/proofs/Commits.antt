@@ -1,13 +1,13 @@
 -- What is kept after a node: all that is sought stays accounted for, whichever way the node came out.
-use Rattle.std.proofs.Common.{◌≡◌, ◌⊎◌, ℕ, zero, suc, ◌+◌, ◌-◌, ◌<◌, ◌≤◌, set, Bool, true, false, not, List, [], ◌∷◌, ◌++◌, length, take, Option, None, Some, refl, ap, subst, sym, ◌∙◌, inl, inr, arith, append-nil}
-use Rattle.std.specs.Prelude.{IsTrue, IsFalse}
+use Rattle.std.proofs.Common.{◌≡◌, ◌⊎◌, ℕ, zero, suc, ◌+◌, set, Bool, true, false, not, List, [], ◌∷◌, ◌++◌, length, take, Option, Some, refl, ap, subst, sym, ◌∙◌, inl, inr, arith, append-nil}
+use Rattle.std.specs.Prelude.{IsFalse}
 use Rattle.config_value.specs.declared.configuration.Instance.{Instance}
 use Rattle.config_value.specs.Literals.{has_literal}
 use Rattle.literal_book.specs.declared.nogood.Nogood.{Nogood}
 use Rattle.literal_book.specs.declared.nogood.Piece.{Piece}
 use Rattle.state_space.specs.State.{State}
 use Rattle.state_space.specs.Covers.{Covers}
-use Rattle.reason_trail.specs.Jobs.{Task, beats, beats_best}
+use Rattle.reason_trail.specs.Jobs.{Task, beats}
 use Rattle.branch_cut.specs.declared.branch.Branch.{Branch}
 use Rattle.seq_search.specs.declared.found.Found.{Found}
 use Rattle.seq_search.specs.declared.found.Found.TheVariants.{Ended, Learnt, Better, Split}

@@ -1,15 +1,11 @@
 -- A branch that is narrowed by its literal.
-use Rattle.std.proofs.Common.{◌≡◌, ◌≢◌, ℕ, ◌<◌, ◌≤◌, List, [], ◌∷◌, ◌++◌, length, take, length-append, Bool, true, false, Some, refl, ap, subst, sym, ◌∙◌, arith}
-use Rattle.std.specs.Prelude.{IsTrue, IsFalse}
+use Rattle.std.proofs.Common.{◌≡◌, List, [], ◌∷◌, ◌++◌, length, take, length-append, Some, refl, ap, subst, sym, ◌∙◌, arith}
+use Rattle.std.specs.Prelude.{IsTrue}
 use Rattle.std.proofs.lemmas.Bool.{true≢false}
-use Rattle.config_value.specs.declared.configuration.Instance.{Instance}
 use Rattle.config_value.specs.declared.literal.Literal.{Literal}
-use Rattle.config_value.specs.Satisfies.{satisfies}
 use Rattle.domain_store.specs.declared.change.Change.{Change}
 use Rattle.domain_store.specs.declared.change.Change.TheVariants.{Same, Smaller, Empty}
-use Rattle.state_space.specs.State.{State, IsState}
-use Rattle.state_space.specs.Entails.{entails, fits}
-use Rattle.state_space.specs.Covers.{Covers}
+use Rattle.state_space.specs.Entails.{entails}
 use Rattle.state_space.proofs.ValidStates.{change_keeps}
 use Rattle.state_space.proofs.ChangeLaws.{empty_covers_none}
 use Rattle.state_space.proofs.FewLaws.{fitting_is_less}
@@ -17,7 +13,6 @@ use Rattle.reason_trail.specs.declared.reason.Why.{Why}
 use Rattle.reason_trail.specs.Trails.{Trace, Extends, IsTrail, IsPushed, length_of}
 use Rattle.reason_trail.proofs.Trails.{now_is_state, new_stage, state_at-pushed, state_at-past}
 use Rattle.seq_search.proofs.Along.{extends_itself}
-use Rattle.seq_search.specs.OpenBranches.{Open, CoversOpen}
 use Rattle.seq_search.specs.steps.Opens.{MayBeTaken}
 use Rattle.seq_search.specs.steps.Nodes.{IsEntered, is_left}
 use Rattle.seq_search.proofs.Filtering.{is_formed}

@@ -1,7 +1,7 @@
 -- A node as a whole: what stood before it and after it.
-use Rattle.std.proofs.Common.{◌≡◌, ℕ, zero, suc, ◌+◌, ◌-◌, ◌<◌, ◌≤◌, List, [], ◌∷◌, ◌++◌, length, take, get_or, map, min, Option, None, Some, refl, ap, subst, sym, ◌∙◌, inl, inr, arith, append-nil, length-append}
-use Rattle.std.specs.Prelude.{IsTrue, IsFalse, IfSome, not, Bool, true, false, ◌&&◌}
-use Rattle.std.specs.List.{All, AllByRecursion}
+use Rattle.std.proofs.Common.{◌≡◌, ℕ, zero, suc, ◌+◌, ◌-◌, ◌<◌, ◌≤◌, List, [], ◌∷◌, ◌++◌, length, take, get_or, map, Option, Some, refl, ap, subst, sym, ◌∙◌, inl, inr, arith, append-nil}
+use Rattle.std.specs.Prelude.{IsTrue, IsFalse, IfSome, not, Bool, true, false}
+use Rattle.std.specs.List.{AllByRecursion}
 use Rattle.std.proofs.lemmas.Bool.{and_parts}
 use Rattle.std.proofs.lemmas.List.{length-take-le, map-append}
 use Rattle.std.proofs.lemmas.List.Elements.{All-from_recursion}
@@ -14,16 +14,15 @@ use Rattle.state_space.specs.Size.{size_of}
 use Rattle.reason_trail.specs.Jobs.{Task, IsWanted}
 use Rattle.reason_trail.specs.Trails.{Trace, Extends, length_of, state_at, cut_to}
 use Rattle.reason_trail.proofs.Trails.{state_at-cut_to, state_at-past}
-use Rattle.nogood_store.specs.Stores.{Held}
 use Rattle.seq_search.specs.declared.found.Found.{Found}
 use Rattle.seq_search.specs.declared.found.Found.TheVariants.{Ended, Learnt, Better, Split}
 use Rattle.seq_search.specs.declared.open_branch.OpenBranch.{OpenBranch}
 use Rattle.seq_search.specs.Accounts.{AccountsForAll}
-use Rattle.seq_search.specs.OpenBranches.{Open, CoversOpen, open_size}
+use Rattle.seq_search.specs.OpenBranches.{CoversOpen, open_size}
 use Rattle.seq_search.specs.Weights.{AreLess}
 use Rattle.seq_search.specs.Searches.{Search}
 use Rattle.seq_search.specs.Advances.{IsPut, IsKeptOrFound, IsNode}
-use Rattle.seq_search.specs.steps.Opens.{open_at, opens, but_last, IsStacked, MayBeTaken, IsStanding, IsKept, search_of}
+use Rattle.seq_search.specs.steps.Opens.{open_at, opens, but_last, IsStacked, MayBeTaken, IsStanding}
 use Rattle.seq_search.specs.steps.Nodes.{IsFound, IfSplit, IsLearnt, branches_after, kept_after, best_after}
 use Rattle.seq_search.proofs.Along.{state_at-extended}
 use Rattle.seq_search.proofs.Commits.{node_accounts}

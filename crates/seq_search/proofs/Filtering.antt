@@ -1,8 +1,8 @@
 -- What ends a branch, and what filtering keeps.
-use Rattle.std.proofs.Common.{◌≡◌, ℕ, zero, suc, ◌+◌, ◌<◌, List, [], ◌∷◌, Bool, true, false, not, ◌&&◌, ◌||◌, Option, None, Some, refl, ap, subst, sym, ◌∙◌, inl, inr, arith}
-use Rattle.std.specs.Prelude.{IsTrue, IsFalse, slice_get}
+use Rattle.std.proofs.Common.{◌≡◌, ℕ, suc, ◌+◌, List, [], ◌∷◌, Bool, true, false, not, ◌&&◌, ◌||◌, refl, subst, sym, ◌∙◌, arith}
+use Rattle.std.specs.Prelude.{IsTrue}
 use Rattle.std.specs.List.{list_all, enumerate_from}
-use Rattle.std.proofs.lemmas.Bool.{true≢false, false≢true, and_parts, and_from}
+use Rattle.std.proofs.lemmas.Bool.{false≢true, and_parts, and_from}
 use Rattle.base_laws.specs.Places.{IsAt}
 use lib.Pointwise.{pointwise}
 use Rattle.prod_model.specs.declared.model.Model.{Model}
@@ -27,7 +27,7 @@ use Rattle.state_space.specs.Whole.{is_whole, whole_configuration}
 use Rattle.state_space.proofs.EntailsLaws.{entailed_holds}
 use Rattle.state_space.proofs.ValidStates.{whole_covers_its_own}
 use Rattle.reason_trail.specs.declared.reason.Reason.{Reason}
-use Rattle.reason_trail.specs.Jobs.{Task, IsTask, IsWanted, passes, beats_best}
+use Rattle.reason_trail.specs.Jobs.{Task, IsTask, IsWanted}
 use Rattle.reason_trail.specs.Propagators.{IsFailure}
 use Rattle.nogood_store.specs.Stores.{Applies}
 

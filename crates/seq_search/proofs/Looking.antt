@@ -1,8 +1,7 @@
 -- What is found in a state is found below the branch that led to it.
-use Rattle.std.proofs.Common.{◌≡◌, ℕ, zero, suc, ◌+◌, ◌-◌, ◌<◌, ◌≤◌, List, Option, None, Some, Bool, true, false, refl, ap, subst, sym, ◌∙◌, arith}
-use Rattle.std.specs.Prelude.{IsTrue, IsFalse, IfSome, IfOk, Result, Ok, Err}
-use Rattle.std.proofs.lemmas.Bool.{true≢false, false≢true}
-use Rattle.base_laws.specs.Places.{IsAt}
+use Rattle.std.proofs.Common.{◌≡◌, ℕ, zero, suc, ◌+◌, ◌-◌, ◌<◌, ◌≤◌, List, Option, true, false, ap, subst, sym, ◌∙◌, arith}
+use Rattle.std.specs.Prelude.{IsTrue, IsFalse, IfOk, Result, Ok, Err}
+use Rattle.std.proofs.lemmas.Bool.{true≢false}
 use Rattle.config_value.specs.declared.configuration.Instance.{Instance}
 use Rattle.config_value.specs.Satisfies.{satisfies}
 use Rattle.literal_book.specs.declared.nogood.Nogood.{Nogood}
@@ -16,14 +15,14 @@ use Rattle.state_space.proofs.FewLaws.{fitting_is_less}
 use Rattle.reason_trail.specs.declared.reason.Reason.{Reason}
 use Rattle.reason_trail.specs.Jobs.{Task, IsTask, IsWanted, beats_best}
 use Rattle.reason_trail.specs.Propagators.{IsFailure, Filters}
-use Rattle.reason_trail.specs.Trails.{Trace, Extends, IsTrail, length_of, state_at, cut_to}
+use Rattle.reason_trail.specs.Trails.{Trace, Extends, IsTrail, length_of, state_at}
 use Rattle.reason_trail.proofs.Trails.{element_at, state_at-stage, state_at-past}
 use Rattle.nogood_store.specs.Stores.{Held, IsStore, AppliesAt}
 use Rattle.seq_search.specs.declared.found.Found.{Found}
 use Rattle.seq_search.specs.declared.found.Found.TheVariants.{Ended, Learnt, Better, Split}
 use Rattle.seq_search.specs.Quests.{IsSought}
 use Rattle.seq_search.specs.OpenBranches.{Open, CoversOpen, open_size}
-use Rattle.seq_search.specs.steps.Nodes.{IsEntered, IsBarren, IsBetter, IsSplit, IsFound, IsEnd, IfSplit, IsTested}
+use Rattle.seq_search.specs.steps.Nodes.{IsEntered, IsBarren, IsFound, IsEnd, IfSplit, IsTested}
 use Rattle.seq_search.proofs.Along.{state_at-extended}
 use Rattle.seq_search.proofs.Filtering.{nogood_ends, failure_ends, whole_covers_one}
 

@@ -1,20 +1,18 @@
 -- How a search ends, and what its best is then.
-use Rattle.std.proofs.Common.{◌≡◌, ◌≢◌, ℕ, zero, suc, ◌+◌, ◌<◌, ◌≤◌, List, [], ◌∷◌, ◌++◌, length, map, Option, None, Some, true, refl, ap, subst, sym, ◌∙◌, arith, Bool, ◌⊎◌, inl, inr}
-use Rattle.std.specs.Prelude.{◌↔◌, IsTrue, IsFalse, IfSome}
+use Rattle.std.proofs.Common.{◌≡◌, ◌≢◌, ℕ, ◌+◌, ◌<◌, ◌≤◌, List, [], ◌∷◌, ◌++◌, map, Option, None, Some, refl, ap, subst, sym, ◌∙◌, arith, Bool, ◌⊎◌, inl, inr}
+use Rattle.std.specs.Prelude.{◌↔◌, IsTrue, IfSome}
 use Rattle.std.proofs.lemmas.Bool.{true≢false}
 use Rattle.std.proofs.lemmas.List.{map-append}
-use Rattle.std.proofs.lemmas.List.Sums.{sum_by-append, sum_by-cons}
 use Rattle.config_value.specs.declared.configuration.Instance.{Instance}
 use Rattle.literal_book.specs.declared.nogood.Piece.{Piece}
-use Rattle.literal_book.specs.Nogoods.{in_piece, has_literals}
-use Rattle.prod_model.specs.declared.model.Model.{Model}
+use Rattle.literal_book.specs.Nogoods.{has_literals}
 use Rattle.state_space.specs.State.{State}
-use Rattle.reason_trail.specs.Jobs.{Task, IsWanted, Beats, IsBestOf, beats_best}
+use Rattle.reason_trail.specs.Jobs.{Task, IsWanted, IsBestOf}
 use Rattle.seq_search.specs.declared.advance.Advance.{Advance}
 use Rattle.seq_search.specs.declared.advance.Advance.TheVariants.{More}
 use Rattle.seq_search.specs.Quests.{IsSought, IsUnbeaten}
 use Rattle.seq_search.specs.OpenBranches.{Open, open_size}
-use Rattle.seq_search.specs.Weights.{weight, weight_of, AreLess}
+use Rattle.seq_search.specs.Weights.{weight_of}
 use Rattle.seq_search.specs.Searches.{Search, IsSearch, weight_left}
 use Rattle.seq_search.specs.Advances.{IsNode, Expands, none, one_more, IsAdvanced}
 use Rattle.seq_search.proofs.Weights.{weight_falls}

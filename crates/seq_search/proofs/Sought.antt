@@ -1,14 +1,12 @@
 -- Tests of configurations: what is shaped, and requests and extras at the root product.
-use Rattle.std.proofs.Common.{◌≡◌, ◌⊎◌, ℕ, zero, suc, ◌+◌, ◌<◌, ◌≤◌, Bool, true, false, not, ◌&&◌, ◌||◌, List, [], ◌∷◌, length, Option, Some, None, refl, inl, inr, ap, sym, subst, ◌∙◌, leb-true, arith}
-use Rattle.std.specs.Prelude.{IsTrue, IsFalse, IfSome, nat_le, slice_get, ◌↔◌}
+use Rattle.std.proofs.Common.{◌≡◌, ℕ, zero, suc, ◌+◌, ◌<◌, Bool, true, false, ◌&&◌, List, [], ◌∷◌, length, Option, Some, None, refl, inl, inr, ap, sym, subst, ◌∙◌, leb-true, arith}
+use Rattle.std.specs.Prelude.{IsTrue, IfSome, nat_le, slice_get, ◌↔◌}
 use Rattle.std.specs.List.{list_all}
-use Rattle.std.proofs.lemmas.Bool.{and_parts, and_from, cases_lt, false≢true}
+use Rattle.std.proofs.lemmas.Bool.{and_parts, and_from, cases_lt}
 use Rattle.std.proofs.lemmas.Option.{slice_get_within, same_Some, none-some}
 use Rattle.base_laws.specs.Places.{IsAt}
 use lib.Pointwise.{pointwise}
 use Rattle.prod_model.specs.declared.model.Model.{Model}
-use Rattle.prod_model.specs.declared.model.Order.{Order}
-use Rattle.prod_model.specs.declared.model.Request.{Request}
 use Rattle.prod_model.specs.declared.expr.Expr.{Expr}
 use Rattle.prod_model.specs.declared.expr_bounds.Bounds.{Bounds}
 use Rattle.prod_model.specs.declared.expr_bounds.Bounds.TheVariants.{Number, Truth}
@@ -18,7 +16,7 @@ use Rattle.prod_model.specs.ExprBounds.{bounds_at, is_truth, is_truth_at}
 use Rattle.config_value.specs.declared.configuration.Instance.{Instance}
 use Rattle.config_value.specs.Shaped.{is_shaped}
 use Rattle.config_value.specs.Numbered.{is_numbered}
-use Rattle.config_value.specs.Satisfies.{satisfies, follows_rules, meets, meets_kept}
+use Rattle.config_value.specs.Satisfies.{satisfies, follows_rules, meets_kept}
 use Rattle.config_value.proofs.ShapedSentences.{shaped_sentences}
 use Rattle.answer_check.specs.Faultless.{IsFaultlessAt}
 use Rattle.literal_book.specs.declared.nogood.Piece.{Piece}

@@ -1,6 +1,6 @@
 -- What holds of the parts of a search before a node and after it.
-use Rattle.std.proofs.Common.{◌≡◌, ℕ, ◌+◌, ◌-◌, ◌<◌, ◌≤◌, List, [], ◌∷◌, ◌++◌, length, get_or, Option, refl, ap, subst, sym, ◌∙◌, arith}
-use Rattle.std.specs.Prelude.{IsTrue, IfSome, Result, Ok, Err, OnErr}
+use Rattle.std.proofs.Common.{◌≡◌, ◌≤◌, List, [], ◌∷◌, ◌++◌, Option, ap, subst, sym, ◌∙◌}
+use Rattle.std.specs.Prelude.{Result, Ok, Err, OnErr}
 use Rattle.std.specs.List.{All}
 use Rattle.std.proofs.lemmas.List.Elements.{All-append}
 use Rattle.config_value.specs.declared.configuration.Instance.{Instance}
@@ -14,7 +14,6 @@ use Rattle.reason_trail.specs.Jobs.{Task}
 use Rattle.reason_trail.specs.Trails.{Trace, Extends, length_of, cut_to}
 use Rattle.nogood_store.specs.Stores.{Held, IsSearched}
 use Rattle.seq_search.specs.declared.found.Found.{Found}
-use Rattle.seq_search.specs.declared.found.Found.TheVariants.{Learnt}
 use Rattle.seq_search.specs.declared.open_branch.OpenBranch.{OpenBranch}
 use Rattle.seq_search.specs.OpenBranches.{CoversOpen, open_size}
 use Rattle.seq_search.specs.Searches.{Search}

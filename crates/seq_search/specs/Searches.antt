@@ -1,5 +1,5 @@
 -- A search within a piece of a job.
-use Rattle.std.specs.Prelude.{◌≡◌, ℕ, IsTrue, Option, None, Some, IfSome, List, [], ◌∷◌, ◌++◌, ◌≤◌, ◌<◌, ◌↔◌, ◌≢◌, map, length, if◌then◌else◌}
+use Rattle.std.specs.Prelude.{◌≡◌, ℕ, Option, None, Some, IfSome, List, [], ◌∷◌, ◌++◌, ◌≤◌, ◌<◌, ◌↔◌, ◌≢◌, map, length, if◌then◌else◌}
 use Rattle.std.specs.List.{All}
 use Rattle.config_value.specs.declared.configuration.Instance.{Instance}
 use Rattle.literal_book.specs.declared.nogood.Nogood.{Nogood}

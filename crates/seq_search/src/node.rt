@@ -126,7 +126,8 @@ fn taught(alloc: Global, trail: &Trail, job: &Job, why: &Reason) -> Result<Found
 }
 
 /// What is below a settled state: nothing, where a nogood applies, an instance has to be made and
-/// none can be, or none can beat the best so far; one configuration, where the state is whole; and else two ways on.
+/// none can be, or none can beat the best so far; one configuration, where the state is whole; and
+/// else two ways on.
 fn look(
     trail: &Trail,
     store: &mut Store,

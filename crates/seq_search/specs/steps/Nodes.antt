@@ -1,5 +1,5 @@
 -- What a node finds out about the branch that it takes.
-use Rattle.std.specs.Prelude.{◌≡◌, ℕ, ◌≤◌, ◌++◌, IsTrue, IsFalse, Bool, true, false, Option, None, Some, IfSome, List, [], ◌∷◌, length}
+use Rattle.std.specs.Prelude.{◌≡◌, ℕ, ◌≤◌, ◌++◌, IsTrue, IsFalse, Bool, true, false, Option, Some, IfSome, List, [], ◌∷◌, length}
 use Rattle.std.specs.List.{All}
 use Rattle.prod_model.specs.declared.model.Model.{Model}
 use Rattle.prod_model.specs.declared.model.Order.{Order}

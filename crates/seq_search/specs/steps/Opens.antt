@@ -1,5 +1,5 @@
 -- Open branches as lengths of one trail.
-use Rattle.std.specs.Prelude.{◌≡◌, ℕ, ◌-◌, ◌≤◌, IsTrue, IsFalse, Option, None, Some, IfSome, List, [], ◌∷◌, ◌++◌, map, length, take}
+use Rattle.std.specs.Prelude.{◌≡◌, ℕ, ◌-◌, ◌≤◌, IsTrue, IsFalse, Option, IfSome, List, [], ◌∷◌, map, length, take}
 use Rattle.std.specs.List.{All, AllByRecursion}
 use Rattle.prod_model.specs.declared.model.Model.{Model}
 use Rattle.config_value.specs.declared.configuration.Instance.{Instance}

@@ -1,6 +1,6 @@
 -- Where there is more, less is left.
-use Rattle.std.proofs.Common.{◌≡◌, refl, arith}
-use Rattle.seq_search.proofs.Solving.{IsSame, more_falls, same_advanced}
+use Rattle.std.proofs.Common.{arith}
+use Rattle.seq_search.proofs.Solving.{more_falls, same_advanced}
 use Rattle.seq_search.proofs.alone.run_to_end.Goals as goal
 
 pub nodes-smaller : goal.nodes-smaller

@@ -1,5 +1,5 @@
 -- Where there is more, less is left.
-use Rattle.std.proofs.Common.{refl, arith}
+use Rattle.std.proofs.Common.{arith}
 use Rattle.seq_search.proofs.Solving.{more_falls, same_advanced}
 use Rattle.seq_search.proofs.alone.run_to_first.Goals as goal
 

@@ -1,12 +1,11 @@
 -- The parts before the node and after it.
-use Rattle.std.proofs.Common.{◌≡◌, ◌-◌, ◌<◌, ◌≤◌, ◌++◌, ◌∷◌, [], length, get_or, refl, ap, subst, sym, ◌∙◌, arith}
-use Rattle.std.specs.Prelude.{OnErr}
+use Rattle.std.proofs.Common.{◌≤◌, ◌++◌, refl, ap, subst, sym, ◌∙◌, arith}
 use Rattle.state_space.specs.State.{IsState}
 use Rattle.state_space.specs.Size.{size_of}
 use Rattle.reason_trail.specs.Trails.{length_of}
 use Rattle.seq_search.specs.OpenBranches.{CoversOpen, open_size}
 use Rattle.seq_search.specs.Advances.{IsNode}
-use Rattle.seq_search.specs.steps.Opens.{open_at, but_last, MayBeTaken, IsKept, search_of}
+use Rattle.seq_search.specs.steps.Opens.{open_at, but_last, MayBeTaken, search_of}
 use Rattle.seq_search.specs.steps.Nodes.{IsFound, IfSplit, kept_after, best_after}
 use Rattle.seq_search.proofs.Expanding.{split_last}
 use Rattle.seq_search.proofs.Whole.{on_err, kept_same, search_same, is_within, may_be_taken, same_search, still_kept, next_kept, next_is_node}

@@ -1,8 +1,8 @@
 -- Filtering keeps what the branch covers, and a failure ends it.
-use Rattle.std.proofs.Common.{◌≡◌, ◌≤◌, subst, sym, ◌∙◌, true}
+use Rattle.std.proofs.Common.{◌≡◌, ◌≤◌, subst, ◌∙◌, true}
 use Rattle.state_space.specs.Size.{size_of}
 use Rattle.state_space.specs.Covers.{Covers}
-use Rattle.reason_trail.specs.Trails.{Trace, cut_to}
+use Rattle.reason_trail.specs.Trails.{cut_to}
 use Rattle.seq_search.specs.OpenBranches.{CoversOpen, open_size}
 use Rattle.seq_search.specs.steps.Opens.{open_at}
 use Rattle.seq_search.specs.steps.Nodes.{IsEntered, IsFound, IfSplit}

@@ -1,5 +1,5 @@
 -- A nogood that applies leaves nothing, nor does a cut; a whole state one configuration; and a choice parts what is there.
-use Rattle.std.proofs.Common.{◌≡◌, subst, sym}
+use Rattle.std.proofs.Common.{subst}
 use Rattle.std.specs.Prelude.{IsTrue}
 use Rattle.state_space.specs.State.{IsState}
 use Rattle.state_space.specs.Covers.{Covers}

@@ -1,5 +1,5 @@
 -- A failure leaves nothing that is wanted, and what it teaches is sound.
-use Rattle.std.proofs.Common.{◌∙◌, subst, sym}
+use Rattle.std.proofs.Common.{subst}
 use Rattle.literal_book.specs.Nogoods.{IsSound}
 use Rattle.state_space.specs.State.{IsState}
 use Rattle.conflict_learn.specs.Learning.{IsLearned}

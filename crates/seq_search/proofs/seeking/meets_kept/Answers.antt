@@ -1,5 +1,5 @@
 -- A kept request that is not met is found at its place.
-use Rattle.std.proofs.Common.{◌≡◌, ◌<◌, sym, subst, ◌∙◌, ap, arith, length, not, ◌||◌, get_or, refl, List, Bool, true, false}
+use Rattle.std.proofs.Common.{◌≡◌, ◌<◌, sym, subst, ◌∙◌, ap, arith, length, not, ◌||◌, get_or, false}
 use Rattle.std.proofs.lemmas.Option.{slice_get-get_or}
 use Rattle.config_value.specs.Satisfies.{meets, meets_kept}
 use Rattle.base_laws.specs.Places.{IsAt}

@@ -1,5 +1,5 @@
 -- One literal more.
-use Rattle.std.proofs.Common.{◌≡◌, ◌∷◌, [], subst, ◌∙◌, true, false}
+use Rattle.std.proofs.Common.{◌∷◌, [], subst, ◌∙◌, true, false}
 use Rattle.seq_search.specs.steps.Starting.{IsNarrowed}
 use Rattle.seq_search.proofs.Begun.{narrowed_by_all, narrowed_on}
 use Rattle.seq_search.proofs.starting.narrow_each.Goals as goal

@@ -1,9 +1,7 @@
 -- In each turn a node is expanded, until no branch is open.
-use Rattle.std.proofs.Common.{◌≡◌, ◌<◌, ◌≤◌, ◌+◌, suc, subst, sym, ap, ◌∙◌, arith, refl, false, true}
-use Rattle.std.specs.Prelude.{IsTrue}
-use Rattle.std.proofs.lemmas.Bool.{true≢false}
-use Rattle.seq_search.specs.Advances.{Expands, none, one_more}
-use Rattle.seq_search.proofs.Advanced.{advanced_done, advanced_more, one_node_more}
+use Rattle.std.proofs.Common.{◌∙◌, refl}
+use Rattle.seq_search.specs.Advances.{none}
+use Rattle.seq_search.proofs.Advanced.{advanced_done, one_node_more}
 use Rattle.seq_search.proofs.searcher.Searcher.advance.Goals as goal
 
 pub loop-turn-init : goal.loop-turn-init
