@@ -1,4 +1,6 @@
-//! The products of `examples/`, each checked as a product engineer would.
+//! The products of `examples/`, each checked as a product engineer would, and the small one
+//! configured.
+pub(super) mod card_rack;
 mod control_cabinet;
 mod lift;
 mod network_rack;
@@ -6,10 +8,17 @@ mod server_chassis;
 
 use super::check_rows::Told;
 use super::checks::check_told;
+use super::products::{Answered, check_answered};
 use crate::status::Status;
 use std::test::Fail;
 
-const GOOD: [Told; 4] = [
+const GOOD: [Told; 5] = [
+    (
+        card_rack::MODEL,
+        card_rack::ORDER,
+        card_rack::GOOD,
+        "satisfied\ncost_eur=86\n",
+    ),
     (
         server_chassis::MODEL,
         server_chassis::ORDER,
@@ -41,7 +50,13 @@ fn products_meet_what_customers_want(rt: HostRuntime) -> Result<(), Fail> {
     Ok(check_told(&rt, rt.alloc(), &GOOD, Status::Satisfied)?)
 }
 
-const BAD: [Told; 4] = [
+const BAD: [Told; 5] = [
+    (
+        card_rack::MODEL,
+        card_rack::ORDER,
+        card_rack::BAD,
+        "broken B11 0 twenty\n",
+    ),
     (
         server_chassis::MODEL,
         server_chassis::ORDER,
@@ -66,4 +81,18 @@ const BAD: [Told; 4] = [
 #[test]
 fn products_with_mistakes_are_told(rt: HostRuntime) -> Result<(), Fail> {
     Ok(check_told(&rt, rt.alloc(), &BAD, Status::Broken)?)
+}
+
+const CONFIGURED: [Answered; 1] = [(card_rack::MODEL, card_rack::ORDER, card_rack::GOOD)];
+
+#[test]
+fn a_small_product_is_configured(rt: HostRuntime) -> Result<(), Fail> {
+    Ok(check_answered(&rt, rt.alloc(), &CONFIGURED, Status::Preferred)?)
+}
+
+const CLASHING: [Answered; 1] = [(card_rack::MODEL, card_rack::CLASH, card_rack::CLASHING)];
+
+#[test]
+fn wishes_that_clash_are_told(rt: HostRuntime) -> Result<(), Fail> {
+    Ok(check_answered(&rt, rt.alloc(), &CLASHING, Status::Conflict)?)
 }

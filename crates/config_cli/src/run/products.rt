@@ -1,27 +1,16 @@
 //! Products that are configured: what is preferred, and what clashes.
+use super::examples::card_rack::MODEL as RACK;
 use super::tests::{BOX, NO_CRITERIA, Row, check_row};
 use crate::status::Status;
 use std::alloc::{AllocError, Global};
 use std::process::Abort;
 use std::test::Fail;
 
-/// A rack of up to four cards, each small or big. The power of all is 30 at most.
-const RACK: &str = r#"{"format":"product-model 1","root":"Rack","instances":5,"types":[
-    {"name":"Item","attributes":[{"name":"price","range":[0,100]}]},
-    {"name":"Rack","parent":"Item","attributes":[{"name":"price","range":[50,50]}],
-        "ports":[{"name":"cards","kind":"part","target":"Card","links":[0,4]}]},
-    {"name":"Card","parent":"Item","attributes":[{"name":"power","range":[1,20]}]},
-    {"name":"Small","parent":"Card","attributes":[{"name":"price","range":[10,10]},
-        {"name":"power","range":[5,5]}]},
-    {"name":"Big","parent":"Card","attributes":[{"name":"price","range":[18,18]},
-        {"name":"power","range":[12,12]}]}],
-    "rules":[{"name":"load","type":"Rack","holds":["<=",["sum","cards","power"],30]}]}"#;
-
 /// A model, an order, and the answer.
-type Answered = (&'static str, &'static str, &'static str);
+pub(super) type Answered = (&'static str, &'static str, &'static str);
 
 /// What is preferred.
-const PREFERRED: [Answered; 7] = [
+const PREFERRED: [Answered; 6] = [
     (
         r#"{"format":"product-model 1","root":"Box","instances":1,
             "types":[{"name":"Box"},{"name":"Lid"}]}"#,
@@ -51,49 +40,35 @@ const PREFERRED: [Answered; 7] = [
     (
         RACK,
         r#"{"format":"order 1",
-            "requests":[{"name":"strong","holds":[">=",["sum","cards","power"],20]}],
-            "criteria":[{"name":"cost","minimise":["total","Item","price"]}]}"#,
-        "preferred\n0 Rack price=50 cards:1,2\n1 Big price=18 power=12\n2 Big price=18 power=12\n",
-    ),
-    (
-        RACK,
-        r#"{"format":"order 1",
-            "requests":[{"name":"strong","holds":[">=",["sum","cards","power"],17]}],
+            "requests":[{"name":"many","holds":[">=",["sum","cards","channels"],17]}],
             "criteria":[{"name":"few","minimise":["count","cards"]}]}"#,
-        "preferred\n0 Rack price=50 cards:1,2\n1 Small price=10 power=5\n2 Big price=18 power=12\n",
+        "preferred\n0 Rack price_eur=50 cards:1,2\n1 Small price_eur=10 channels=5\n\
+            2 Big price_eur=18 channels=12\n",
     ),
     (
         RACK,
         r#"{"format":"order 1",
-            "criteria":[{"name":"power","maximise":["sum","cards","power"]}]}"#,
-        "preferred\n0 Rack price=50 cards:1,2,3\n1 Small price=10 power=5\n\
-            2 Big price=18 power=12\n3 Big price=18 power=12\n",
+            "criteria":[{"name":"channels","maximise":["sum","cards","channels"]}]}"#,
+        "preferred\n0 Rack price_eur=50 cards:1,2,3\n1 Small price_eur=10 channels=5\n\
+            2 Big price_eur=18 channels=12\n3 Big price_eur=18 channels=12\n",
     ),
 ];
 
 /// What clashes.
-const CLASHES: [Answered; 4] = [
-    (
-        RACK,
-        r#"{"format":"order 1","requests":[
-            {"name":"few","holds":["<=",["count","cards"],1]},
-            {"name":"strong","holds":[">=",["sum","cards","power"],20]},
-            {"name":"small","holds":[">=",["number","Small"],1]}]}"#,
-        "conflict 2\n1 few\n2 strong\n",
-    ),
+const CLASHES: [Answered; 3] = [
     (
         RACK,
         r#"{"format":"order 1","requests":[
             {"name":"few","holds":["<=",["count","cards"],1]},
             {"name":"small","holds":[">=",["number","Small"],2]},
-            {"name":"strong","holds":[">=",["sum","cards","power"],20]}]}"#,
+            {"name":"many","holds":[">=",["sum","cards","channels"],20]}]}"#,
         "conflict 2\n1 few\n2 small\n",
     ),
     (
         RACK,
         r#"{"format":"order 1","requests":[
-            {"name":"strong","holds":[">=",["sum","cards","power"],31]}]}"#,
-        "conflict 1\n1 strong\n",
+            {"name":"many","holds":[">=",["sum","cards","channels"],31]}]}"#,
+        "conflict 1\n1 many\n",
     ),
     (
         r#"{"format":"product-model 1","root":"Box","instances":1,"types":[{"name":"Box"}],
@@ -104,7 +79,7 @@ const CLASHES: [Answered; 4] = [
 ];
 
 /// Each is answered with its status and text.
-fn check_answered(
+pub(super) fn check_answered(
     rt: &impl Abort,
     alloc: Global,
     rows: &[Answered],
