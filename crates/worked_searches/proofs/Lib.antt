@@ -1,0 +1,2 @@
+mod WantedLaws
+mod ImportLaws
