@@ -107,12 +107,16 @@ impl<P: MakeProps + Drop> Solver for Alone<P> {
         extra: &[Expr],
     ) -> Result<Option<Configuration>, AllocError> {
         let job = self.job(keep, after, extra, false)?;
-        best_of::<P>(self.alloc, &job)
+        let best = best_of::<P>(self.alloc, &job);
+        drop(job);
+        best
     }
 
     fn exists(&mut self, keep: &[bool], extra: &[Expr]) -> Result<bool, AllocError> {
         let job = self.job(keep, None, extra, true)?;
-        is_any_wanted::<P>(self.alloc, &job)
+        let found = is_any_wanted::<P>(self.alloc, &job);
+        drop(job);
+        found
     }
 }
 
@@ -161,7 +165,22 @@ fn best_of<P: MakeProps + Drop>(
     ensures { IfOk result (IsBestOf job.now) }
 {
     let mut search = search_of::<P>(alloc, job)?;
-    run_to_end(&mut search, job)?;
+    let best = best_in(alloc, &mut search, job);
+    drop(search);
+    best
+}
+
+/// The best of a search for all configurations, which it runs to its end.
+fn best_in<P: Propagate + Drop>(
+    alloc: Global,
+    search: &mut Searcher<P>,
+    job: &Job,
+) -> Result<Option<Configuration>, AllocError>
+    requires job { job.now ≡ search.old.job }
+    requires whole { search.old.piece.literals ≡ [] }
+    ensures { IfOk result (IsBestOf job.now) }
+{
+    run_to_end(search, job)?;
     match search.best_so_far() {
         Some(c) => Ok(Some(c.copy(alloc)?)),
         None => Ok(None),
@@ -174,8 +193,20 @@ fn is_any_wanted<P: MakeProps + Drop>(alloc: Global, job: &Job) -> Result<bool, 
         job.now.goal.keep job.now.goal.after job.now.goal.extra) }
 {
     let mut search = search_of::<P>(alloc, job)?;
-    run_to_first(&mut search, job)?;
-    Ok(has_best(&search))
+    let found = is_any_in(&mut search, job);
+    drop(search);
+    found
+}
+
+/// Whether anything is found by a search for all configurations, which it runs to the first.
+fn is_any_in<P: Propagate + Drop>(search: &mut Searcher<P>, job: &Job) -> Result<bool, AllocError>
+    requires job { job.now ≡ search.old.job }
+    requires whole { search.old.piece.literals ≡ [] }
+    ensures { IfOk result (λ b. IsTrue b ↔ SomeIsWanted job.now.model job.now.order
+        job.now.goal.keep job.now.goal.after job.now.goal.extra) }
+{
+    run_to_first(search, job)?;
+    Ok(has_best(search))
 }
 
 /// A search of a job in the piece of all configurations.

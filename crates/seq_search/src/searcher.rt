@@ -11,7 +11,7 @@ use crate::advance::Advance;
 use crate::expand::expand;
 use crate::open_branch::OpenBranch;
 use crate::seeking::beats_best;
-use crate::starting::first_branches;
+use crate::starting::lay_ground;
 use config_value::Configuration;
 use literal_book::{Added, Nogood, Piece};
 use nogood_store::Store;
@@ -66,19 +66,23 @@ impl<P: Propagate + Drop> Searcher<P> {
         requires props { P.job props ≡ job.now }
         ensures { IfOk result (IsBegun job.now piece) }
     {
-        let mut trail = Trail::start(alloc, job)?;
-        let store = Store::new(alloc, job.problem(), job.order())?;
-        let branches = first_branches(alloc, &mut trail, &piece)?;
-        Ok(Searcher {
-            alloc,
-            trail,
-            props,
-            store,
-            piece,
-            branches,
-            best: None,
-            learnt: VecDeque::new(alloc),
-        })
+        match lay_ground(alloc, job, &piece) {
+            Ok(ground) => Ok(Searcher {
+                alloc,
+                trail: ground.trail,
+                props,
+                store: ground.store,
+                piece,
+                branches: ground.branches,
+                best: None,
+                learnt: VecDeque::new(alloc),
+            }),
+            Err(e) => {
+                drop(props);
+                drop(piece);
+                Err(e)
+            }
+        }
     }
 
     /// Expands up to so many nodes. After `AllocError` it is as after its last whole node.

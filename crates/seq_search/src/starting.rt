@@ -3,14 +3,65 @@ ghost use Rattle.std.specs.Prelude.{◌≡◌, ◌≤◌, ◌<◌, ◌∷◌, []
 ghost use Rattle.base_laws.specs.Places.{IsAt};
 ghost use Rattle.reason_trail.specs.Trails.{started};
 ghost use Rattle.seq_search.specs.steps.Opens.{IsStanding};
-ghost use Rattle.seq_search.specs.steps.Starting.{IsNarrowed};
+ghost use Rattle.seq_search.specs.steps.Starting.{IsGround, IsNarrowed};
 
 use crate::node::narrow;
 use crate::open_branch::OpenBranch;
 use config_value::Literal;
 use literal_book::Piece;
-use reason_trail::Trail;
+use nogood_store::Store;
+use reason_trail::{Job, Trail};
 use std::alloc::{AllocError, Global};
+
+/// What a search stands on at its start.
+#[derive(Drop)]
+pub(crate) struct Ground {
+    pub trail: Trail,
+    pub store: Store,
+    pub branches: Vec<OpenBranch>,
+}
+
+/// The trail of a job, narrowed by the literals of a piece that fit, with the branches that are open
+/// at first, and an empty store. What is made is given back at once where memory runs out.
+pub(crate) fn lay_ground(alloc: Global, job: &Job, piece: &Piece) -> Result<Ground, AllocError>
+    ensures { IfOk result (IsGround job.now piece.now) }
+{
+    let mut trail = Trail::start(alloc, job)?;
+    match first_branches(alloc, &mut trail, piece) {
+        Ok(branches) => lay_ground_with(alloc, job, piece, trail, branches),
+        Err(e) => {
+            drop(trail);
+            Err(e)
+        }
+    }
+}
+
+/// The same, with the trail and the branches.
+fn lay_ground_with(
+    alloc: Global,
+    job: &Job,
+    piece: &Piece,
+    trail: Trail,
+    branches: Vec<OpenBranch>,
+) -> Result<Ground, AllocError>
+    requires job { trail.job ≡ job.now }
+    requires standing { IsStanding job.now trail piece.now branches.items None }
+    requires one { length branches.items ≤ 1 }
+    ensures { IfOk result (IsGround job.now piece.now) }
+{
+    match Store::new(alloc, job.problem(), job.order()) {
+        Ok(store) => Ok(Ground {
+            trail,
+            store,
+            branches,
+        }),
+        Err(e) => {
+            drop(trail);
+            drop(branches);
+            Err(e)
+        }
+    }
+}
 
 /// The branches that are open at first, for a trail without entries: one, or none where nothing is
 /// in the piece.

@@ -13,6 +13,6 @@ pub returns-clause-best : goal.returns-clause-best
 returns-clause-best g c =
     let s = c.args.self.now in
     let j = asked s c.args.keep.now (option_map (λ d. d.now) c.args.after) c.args.extra.now false in
-    if_ok (IsBestOf j) (IsFirstWanted s.model s.order j.goal.keep j.goal.after j.goal.extra) c.best_of.result
+    if_ok (IsBestOf j) (IsFirstWanted s.model s.order j.goal.keep j.goal.after j.goal.extra) c.best_of-best.result
     (λ best is. (best_is_first_wanted j best refl).0 is)
-    (subst (λ k. IfOk c.best_of.result (IsBestOf k)) c.in_ok-job.ensures c.best_of.ensures)
+    (subst (λ k. IfOk c.best_of-best.result (IsBestOf k)) c.in_ok-job.ensures c.best_of-best.ensures)
