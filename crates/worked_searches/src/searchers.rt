@@ -6,11 +6,12 @@ ghost use Rattle.worked_racks.specs.Unmet.{FirstIsUnmet};
 use crate::idle::Idle;
 use crate::wanted::is_wanted;
 use literal_book::{Added, Literal, Literals, Nogood, Piece};
-use reason_trail::Job;
+use reason_trail::{Job, Propagate};
 use seq_search::{Advance, MakeProps, Searcher};
 use std::alloc::{AllocError, Global};
 use std::process::Abort;
 use std::test::Fail;
+use type_narrowing::TypeNarrowing;
 use worked_models::models::{BOXES, RACKS};
 use worked_models::satisfying::answer_of;
 use worked_racks::jobs::job_of;
@@ -76,7 +77,12 @@ const HANDED: [Handed; 3] = [
 ];
 
 /// Hands in the configuration of an answer, if it is wanted.
-fn hand_in(alloc: Global, job: &Job, search: &mut Searcher<Idle>, lines: &str) -> Result<(), Fail>
+fn hand_in<P: Propagate + Drop>(
+    alloc: Global,
+    job: &Job,
+    search: &mut Searcher<P>,
+    lines: &str,
+) -> Result<(), Fail>
     requires goal { job.now.goal ≡ goal_of job.now.order true false }
     requires same { job.now ≡ search.old.job }
     ensures { search.new.job ≡ search.old.job }
@@ -89,10 +95,10 @@ fn hand_in(alloc: Global, job: &Job, search: &mut Searcher<Idle>, lines: &str) -
     Ok(())
 }
 
-fn hand_in_each(
+fn hand_in_each<P: Propagate + Drop>(
     alloc: Global,
     job: &Job,
-    search: &mut Searcher<Idle>,
+    search: &mut Searcher<P>,
     answers: &[&str],
 ) -> Result<(), Fail>
     requires goal { job.now.goal ≡ goal_of job.now.order true false }
@@ -106,16 +112,21 @@ fn hand_in_each(
 }
 
 /// Whether the best so far is the configuration of an answer.
-fn is_best(alloc: Global, job: &Job, search: &Searcher<Idle>, lines: &str) -> Result<bool, Fail> {
+fn is_best<P: Propagate + Drop>(
+    alloc: Global,
+    job: &Job,
+    search: &Searcher<P>,
+    lines: &str,
+) -> Result<bool, Fail> {
     let want = answer_of(alloc, job.problem(), lines)?;
     Ok(search.best_so_far().is_some_and(|c| c.same(&want)))
 }
 
-fn check_handed(
+fn check_handed<P: Propagate + Drop>(
     rt: &impl Abort,
     alloc: Global,
     job: &Job,
-    search: &mut Searcher<Idle>,
+    search: &mut Searcher<P>,
     row: &Handed,
 ) -> Result<(), Fail>
     requires goal { job.now.goal ≡ goal_of job.now.order true false }
@@ -123,7 +134,7 @@ fn check_handed(
 {
     hand_in_each(alloc, job, search, row.0)?;
     assert!(rt; is_best(alloc, job, search, row.1)?, "{row:?}");
-    assert_eq!(rt; search.advance(job, 1_000)?, Advance::Done, "{row:?}");
+    assert_eq!(rt; search.advance(job, 100_000)?, Advance::Done, "{row:?}");
     assert!(rt; is_best(alloc, job, search, row.2)?, "{row:?}");
     Ok(())
 }
@@ -150,6 +161,40 @@ fn check_each_handed(rt: &impl Abort, alloc: Global, job: &Job) -> Result<(), Fa
 fn keeps_the_best_that_is_handed_in(rt: HostRuntime) -> Result<(), Fail> {
     let job = job_of(rt.alloc(), BOXES, WIDEST)?;
     let checked = check_each_handed(&rt, rt.alloc(), &job);
+    drop(job);
+    checked
+}
+
+/// The rack with the most power that its lines carry.
+const STRONGEST: &str = "preferred\n0 Rack price=50 cards:1,2,3\n1 Small price=10 power=5\n\
+    2 Big price=18 power=12\n3 Big price=18 power=12\n";
+
+const HANDED_RACK: Handed = (&[STRONGEST], STRONGEST, STRONGEST);
+
+/// A search for all configurations of a job, narrowed by types.
+fn narrowed_search(alloc: Global, job: &Job) -> Result<Searcher<TypeNarrowing>, AllocError>
+    ensures { IfOk result (λ s. s.job ≡ job.now) }
+{
+    let props = TypeNarrowing::new(alloc, job)?;
+    let piece = Piece {
+        literals: Literals::new(alloc),
+    };
+    Searcher::start(alloc, job, piece, props)
+}
+
+fn check_rack_of(rt: &impl Abort, alloc: Global, job: &Job) -> Result<(), Fail>
+    requires goal { job.now.goal ≡ goal_of job.now.order true false }
+{
+    let mut search = narrowed_search(alloc, job)?;
+    let checked = check_handed(rt, alloc, job, &mut search, &HANDED_RACK);
+    drop(search);
+    checked
+}
+
+#[test]
+fn keeps_the_best_rack_that_is_handed_in(rt: HostRuntime) -> Result<(), Fail> {
+    let job = job_of(rt.alloc(), RACKS, MOST_POWER)?;
+    let checked = check_rack_of(&rt, rt.alloc(), &job);
     drop(job);
     checked
 }
